@@ -9,7 +9,7 @@ use Rattle.wsm_interval.specs.declared.Comparison.{Comparison}
 use Rattle.wsm_program.specs.declared.instr.FieldTest.{FieldTest}
 use Rattle.wsm_program.specs.Comparisons.{comparison_number, comparison_of_number}
 use Rattle.wsm_program.specs.declared.instr.Instr.{Instr}
-use Rattle.wsm_program.specs.declared.instr.Instr.TheVariants.{PushInt, PushBool, PushEnum, Field, Key, Acc, Count, Operate, Jump, JumpIfFalse, Test, Fold, Return}
+use Rattle.wsm_program.specs.declared.instr.Instr.TheVariants.{PushInt, PushBool, PushEnum, Field, Key, Acc, Count, Compute, Neg, Compare, Not, Jump, JumpIfFalse, Test, Fold, Return}
 use Rattle.wsm_program.specs.declared.instr.Opcode.{Opcode}
 use Rattle.wsm_program.specs.declared.instr.Opcode.TheVariants as opcodes
 use Rattle.wsm_program.specs.Opcodes.{code as code_of}
@@ -131,7 +131,10 @@ instr_again v h few (Field f) rest good known = instr_step v h opcodes.Field (by
 instr_again v h few Key rest good known = instr_step v h opcodes.Key rest Key rest refl
 instr_again v h few (Acc a) rest good known = instr_step v h opcodes.Acc (byte a ++ rest) (Acc a) rest (index_again (length h.kinds) Acc a rest few.kinds good)
 instr_again v h few Count rest good known = instr_step v h opcodes.Count rest Count rest refl
-instr_again v h few (Operate o) rest good known = instr_step v h (opcodes.Operate o) rest (Operate o) rest refl
+instr_again v h few (Compute a) rest good known = instr_step v h (opcodes.Compute a) rest (Compute a) rest refl
+instr_again v h few Neg rest good known = instr_step v h opcodes.Neg rest Neg rest refl
+instr_again v h few (Compare c) rest good known = instr_step v h (opcodes.Compare c) rest (Compare c) rest refl
+instr_again v h few Not rest good known = instr_step v h opcodes.Not rest Not rest refl
 instr_again v h few (Jump t) rest good known = instr_step v h opcodes.Jump (number t ++ rest) (Jump t) rest (target_again Jump t rest good)
 instr_again v h few (JumpIfFalse t) rest good known = instr_step v h opcodes.JumpIfFalse (number t ++ rest) (JumpIfFalse t) rest (target_again JumpIfFalse t rest good)
 instr_again One h few (Test x t) rest good known = absurd (true≢false (sym known))

@@ -7,7 +7,7 @@ use Rattle.std.proofs.lemmas.Bool.{le-leb, and_parts, and_from}
 use Rattle.std.proofs.lemmas.Slice.Eq.{bytes_eq-Decides}
 use Rattle.wsm_program.specs.declared.refusal.DecodeRefusal.TheVariants.{BadMagic, Version as OtherVersion, UnknownOpcode, Operand}
 use Rattle.wsm_program.specs.declared.instr.Instr.{Instr}
-use Rattle.wsm_program.specs.declared.instr.Instr.TheVariants.{PushInt, PushBool, PushEnum, Field, Key, Acc, Count, Operate, Jump, JumpIfFalse, Test, Fold, Return}
+use Rattle.wsm_program.specs.declared.instr.Instr.TheVariants.{PushInt, PushBool, PushEnum, Field, Key, Acc, Count, Compute, Neg, Compare, Not, Jump, JumpIfFalse, Test, Fold, Return}
 use Rattle.wsm_program.specs.declared.instr.FieldTest.{FieldTest}
 use Rattle.wsm_program.specs.declared.instr.Opcode.{Opcode}
 use Rattle.wsm_program.specs.declared.instr.Opcode.TheVariants as opcodes
@@ -180,7 +180,10 @@ instr_by_taken v h opcodes.Field bytes x fits e = index_taken v h opcodes.Field 
 instr_by_taken v h opcodes.Key bytes x fits e = plain_taken v h opcodes.Key Key bytes x refl refl refl refl fits e
 instr_by_taken v h opcodes.Acc bytes x fits e = index_taken v h opcodes.Acc (length h.kinds) Acc (λ i rest. refl) (λ i. refl) (λ i. refl) bytes x fits e
 instr_by_taken v h opcodes.Count bytes x fits e = plain_taken v h opcodes.Count Count bytes x refl refl refl refl fits e
-instr_by_taken v h (opcodes.Operate o) bytes x fits e = plain_taken v h (opcodes.Operate o) (Operate o) bytes x refl refl refl refl fits e
+instr_by_taken v h (opcodes.Compute a) bytes x fits e = plain_taken v h (opcodes.Compute a) (Compute a) bytes x refl refl refl refl fits e
+instr_by_taken v h opcodes.Neg bytes x fits e = plain_taken v h opcodes.Neg Neg bytes x refl refl refl refl fits e
+instr_by_taken v h (opcodes.Compare c) bytes x fits e = plain_taken v h (opcodes.Compare c) (Compare c) bytes x refl refl refl refl fits e
+instr_by_taken v h opcodes.Not bytes x fits e = plain_taken v h opcodes.Not Not bytes x refl refl refl refl fits e
 instr_by_taken v h opcodes.Jump bytes x fits e = target_taken v h opcodes.Jump Jump (λ t rest. refl) (λ t. refl) (λ t. refl) bytes x fits e
 instr_by_taken v h opcodes.JumpIfFalse bytes x fits e = target_taken v h opcodes.JumpIfFalse JumpIfFalse (λ t rest. refl) (λ t. refl) (λ t. refl) bytes x fits e
 instr_by_taken v h opcodes.Test bytes x fits e = version_test_taken v h bytes x fits e

@@ -10,7 +10,7 @@ use Rattle.wsm_record.specs.Schema.{DeclaredField, Declared, enum_names}
 use Rattle.wsm_admission.specs.declared.clock.Clock.{Clock}
 use Rattle.wsm_program.specs.declared.instr.FieldTest.{FieldTest}
 use Rattle.wsm_program.specs.declared.instr.Instr.{Instr}
-use Rattle.wsm_program.specs.declared.instr.Instr.TheVariants.{PushInt, PushBool, PushEnum, Field, Key, Acc, Count, Operate, Jump, JumpIfFalse, Test, Fold, Return}
+use Rattle.wsm_program.specs.declared.instr.Instr.TheVariants.{PushInt, PushBool, PushEnum, Field, Key, Acc, Count, Compute, Neg, Compare, Not, Jump, JumpIfFalse, Test, Fold, Return}
 use Rattle.wsm_program.specs.declared.instr.Opcode.{Opcode}
 use Rattle.wsm_program.specs.declared.instr.Opcode.TheVariants as opcodes
 use Rattle.wsm_program.specs.declared.program.Costs.{Costs}
@@ -157,7 +157,10 @@ instr_by v h opcodes.Field bytes = index_at (length h.schema.fields) Field bytes
 instr_by v h opcodes.Key bytes = Ok (Key, bytes)
 instr_by v h opcodes.Acc bytes = index_at (length h.kinds) Acc bytes
 instr_by v h opcodes.Count bytes = Ok (Count, bytes)
-instr_by v h (opcodes.Operate o) bytes = Ok (Operate o, bytes)
+instr_by v h (opcodes.Compute a) bytes = Ok (Compute a, bytes)
+instr_by v h opcodes.Neg bytes = Ok (Neg, bytes)
+instr_by v h (opcodes.Compare c) bytes = Ok (Compare c, bytes)
+instr_by v h opcodes.Not bytes = Ok (Not, bytes)
 instr_by v h opcodes.Jump bytes = target_at Jump bytes
 instr_by v h opcodes.JumpIfFalse bytes = target_at JumpIfFalse bytes
 instr_by v h opcodes.Test bytes = test_by v h.schema.fields bytes

@@ -10,8 +10,9 @@ use Rattle.wsm_windows.specs.declared.Shape.{Shape}
 use Rattle.wsm_windows.specs.declared.Shape.TheVariants.{Fixed, Sliding}
 use Rattle.wsm_record.specs.declared.words.CellType.TheVariants as types
 use Rattle.wsm_program.specs.declared.instr.Instr.{Instr}
-use Rattle.wsm_program.specs.declared.instr.Instr.TheVariants.{PushBool, Field, Acc, Count, Operate, Jump, Test, Fold, Return}
-use Rattle.wsm_program.specs.declared.operation.Operation.TheVariants.{Add, Sub, Mul, Div, Rem, Neg, Eq, Ne, Lt, Le, Gt, Ge, Not}
+use Rattle.wsm_program.specs.declared.instr.Instr.TheVariants.{PushBool, Field, Acc, Count, Compute, Neg, Compare, Not, Jump, Test, Fold, Return}
+use Rattle.wsm_interval.specs.declared.arithmetic.Arithmetic.TheVariants.{Add, Sub, Mul, Div, Rem}
+use Rattle.wsm_interval.specs.declared.comparison.Comparison.TheVariants.{Eq, Ne, Lt, Le, Gt, Ge}
 use Rattle.wsm_program.specs.declared.refusal.DecodeRefusal.{DecodeRefusal}
 use Rattle.wsm_program.specs.declared.refusal.DecodeRefusal.TheVariants.{BadMagic, Version, Truncated, UnknownOpcode, Operand, TrailingBytes}
 use Rattle.wsm_program.specs.Program.{Program, is_header, is_section, is_program}
@@ -242,7 +243,7 @@ nine_lines = refl
 -- every operation, its code and its name
 
 abbrev operations : List Instr
-operations = map Operate (Add ∷ Sub ∷ Mul ∷ Div ∷ Rem ∷ Neg ∷ Eq ∷ Ne ∷ Lt ∷ Le ∷ Gt ∷ Ge ∷ Not ∷ [])
+operations = map Compute (Add ∷ Sub ∷ Mul ∷ Div ∷ Rem ∷ []) ++ Neg ∷ map Compare (Eq ∷ Ne ∷ Lt ∷ Le ∷ Gt ∷ Ge ∷ []) ++ Not ∷ []
 
 operations_spelled : code operations ≡ 13 ∷ 0 ∷ 16 ∷ 17 ∷ 18 ∷ 19 ∷ 20 ∷ 21 ∷ 32 ∷ 33 ∷ 34 ∷ 35 ∷ 36 ∷ 37 ∷ 40 ∷ []
 unfolding code instr

@@ -8,7 +8,7 @@ use Rattle.wsm_record.specs.declared.limits.TheConstants.{MAX_SOURCES}
 use Rattle.wsm_record.specs.Name.{is_between}
 use Rattle.wsm_windows.specs.declared.Shape.{Shape}
 use Rattle.wsm_program.specs.declared.instr.Instr.{Instr}
-use Rattle.wsm_program.specs.declared.instr.Instr.TheVariants.{PushInt, PushBool, PushEnum, Field, Key, Acc, Count, Operate, Jump, JumpIfFalse, Test, Fold, Return}
+use Rattle.wsm_program.specs.declared.instr.Instr.TheVariants.{PushInt, PushBool, PushEnum, Field, Key, Acc, Count, Compute, Neg, Compare, Not, Jump, JumpIfFalse, Test, Fold, Return}
 use Rattle.wsm_program.specs.Program.{Name}
 use Rattle.wsm_bytecode.specs.declared.tags.TheConstants.{FORM_COUNT, SHAPE_COUNT}
 use Rattle.wsm_bytecode.specs.Tags.{form_tag, shape_tag, last_shape_tag}
@@ -39,7 +39,10 @@ has (Field f) = true
 has Key = true
 has (Acc a) = true
 has Count = true
-has (Operate o) = true
+has (Compute a) = true
+has Neg = true
+has (Compare c) = true
+has Not = true
 has (Jump t) = true
 has (JumpIfFalse t) = true
 has (Test x t) = false

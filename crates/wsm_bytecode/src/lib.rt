@@ -37,8 +37,8 @@ pub use listing::disassemble;
 pub use reading::decode;
 pub use writing::encode;
 pub use wsm_program::{
-    CellType, Clock, Comparison, Costs, DecodeRefusal, FieldTest, Header, Instr, Operands,
-    Operation, Program, Section, SectionId,
+    Arithmetic, CellType, Clock, Comparison, Costs, DecodeRefusal, FieldTest, Header, Instr,
+    Operands, Program, Section, SectionId,
 };
 
 pub mod laws;

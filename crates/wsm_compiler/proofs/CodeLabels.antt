@@ -2,7 +2,6 @@
 use Rattle.std.proofs.Common.{◌≡◌, ℕ, ◌+◌, ◌≤◌, ◌<◌, true, false, List, [], ◌∷◌, ◌++◌, length, Some, Ok, refl, sym, ap, subst, ◌∙◌, arith, length-append}
 use Rattle.std.proofs.lemmas.Option.{same_Some}
 use Rattle.wsm_program.specs.declared.instr.Instr.TheVariants as instr
-use Rattle.wsm_program.specs.declared.operation.Operation.TheVariants as operation
 use Rattle.wsm_query.specs.Tree.{Query, Expr, Number, Truth, Field, EnumName, Key, KeyName, Count, Aggregate, If, Brackets, Minus, Not, Binary, And, Or}
 use Rattle.wsm_record.specs.declared.words.CellType.{CellType}
 use Rattle.wsm_record.specs.declared.words.CellType.TheVariants as types
@@ -91,14 +90,14 @@ module _ (e : State) (c : Setting) (q : Query) (around : Around) (reads : Reads 
   labelled_on ds nd k a (Brackets x) t s is h accs room more = labelled_on ds nd k a x t s is h accs room more
   labelled_on ds nd k a (Minus x) t s is h accs room more =
       let u = unary_is q around x types.Int t h in
-      subst (λ o. Labelled e c k (code q k a x ++ instr.Operate operation.Neg ∷ []) s o) (pushed_bind s (λ v. of_instr c (instr.Operate operation.Neg) (v ∷ [])) (found c q s.fields a x))
-      (follow e c k (size q a x) (code q k a x) (instr.Operate operation.Neg ∷ []) s (found c q s.fields a x) (λ v. pushed_on s (of_instr c (instr.Operate operation.Neg) (v ∷ []))) (length-code q k a x) (some_code q k a x) (omega arith)
+      subst (λ o. Labelled e c k (code q k a x ++ instr.Neg ∷ []) s o) (pushed_bind s (λ v. of_instr c instr.Neg (v ∷ [])) (found c q s.fields a x))
+      (follow e c k (size q a x) (code q k a x) (instr.Neg ∷ []) s (found c q s.fields a x) (λ v. pushed_on s (of_instr c instr.Neg (v ∷ []))) (length-code q k a x) (some_code q k a x) (omega arith)
       (labelled_on ds nd k a x types.Int s is u.0 accs room (omega (arith, more)))
       (λ v ev. make_neg e c (k + size q a x) s (omega (arith, room, some_need q a x)) (omega (arith, more)) v))
   labelled_on ds nd k a (Not x) t s is h accs room more =
       let u = unary_is q around x types.Bool t h in
-      subst (λ o. Labelled e c k (code q k a x ++ instr.Operate operation.Not ∷ []) s o) (pushed_bind s (λ v. of_instr c (instr.Operate operation.Not) (v ∷ [])) (found c q s.fields a x))
-      (follow e c k (size q a x) (code q k a x) (instr.Operate operation.Not ∷ []) s (found c q s.fields a x) (λ v. pushed_on s (of_instr c (instr.Operate operation.Not) (v ∷ []))) (length-code q k a x) (some_code q k a x) (omega arith)
+      subst (λ o. Labelled e c k (code q k a x ++ instr.Not ∷ []) s o) (pushed_bind s (λ v. of_instr c instr.Not (v ∷ [])) (found c q s.fields a x))
+      (follow e c k (size q a x) (code q k a x) (instr.Not ∷ []) s (found c q s.fields a x) (λ v. pushed_on s (of_instr c instr.Not (v ∷ []))) (length-code q k a x) (some_code q k a x) (omega arith)
       (labelled_on ds nd k a x types.Bool s is u.0 accs room (omega (arith, more)))
       (λ v ev. make_not e c (k + size q a x) s (omega (arith, room, some_need q a x)) (omega (arith, more)) v))
   labelled_on ds nd k a (Binary op x y) t s is h accs room more =

@@ -9,7 +9,6 @@ use Rattle.wsm_record.specs.declared.words.Kind.TheVariants.{Sum, Min, Max, Any,
 use Rattle.wsm_record.specs.Name.{is_among}
 use Rattle.wsm_program.specs.declared.instr.Instr.{Instr}
 use Rattle.wsm_program.specs.declared.instr.Instr.TheVariants as instr
-use Rattle.wsm_program.specs.declared.operation.Operation.TheVariants as operation
 use Rattle.wsm_record.specs.declared.cell.Cell.{Cell}
 use Rattle.wsm_record.specs.declared.cell.Cell.TheVariants as cells
 use Rattle.wsm_machine.specs.declared.outcome.Trap.TheVariants.{Underflow, StackFull, IntOverflow, WrongSection}
@@ -251,7 +250,7 @@ module _ (c : Setting) (q : Query) (around : Around) (s : Scene) (serves : Serve
   code_runs k a (Minus e) m t h accs at inside stack folds room =
       let u = unary_is q around e types.Int t h in
       let i = k + size q a e in
-      let parts = split_code q c.code k a e (instr.Operate operation.Neg ∷ []) at in
+      let parts = split_code q c.code k a e (instr.Neg ∷ []) at in
       let over : i + 1 ≡ k + (size q a e + 1) = omega arith in
       at_place c (state k stack folds) (i + 1) (k + (size q a e + 1)) stack folds t (kept (minus (value a e))) over
       (at_type c (state k stack folds) (i + 1) stack folds types.Int t (kept (minus (value a e))) u.1
@@ -260,7 +259,7 @@ module _ (c : Setting) (q : Query) (around : Around) (s : Scene) (serves : Serve
   code_runs k a (Not e) m t h accs at inside stack folds room =
       let u = unary_is q around e types.Bool t h in
       let i = k + size q a e in
-      let parts = split_code q c.code k a e (instr.Operate operation.Not ∷ []) at in
+      let parts = split_code q c.code k a e (instr.Not ∷ []) at in
       let over : i + 1 ≡ k + (size q a e + 1) = omega arith in
       at_place c (state k stack folds) (i + 1) (k + (size q a e + 1)) stack folds t (negated (value a e)) over
       (at_type c (state k stack folds) (i + 1) stack folds types.Bool t (negated (value a e)) u.1

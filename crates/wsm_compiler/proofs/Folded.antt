@@ -12,7 +12,6 @@ use Rattle.wsm_record.specs.Schema.{is_i64}
 use Rattle.wsm_program.specs.declared.instr.Instr.{Instr}
 use Rattle.wsm_program.specs.declared.instr.FieldTest.{FieldTest}
 use Rattle.wsm_program.specs.declared.instr.Instr.TheVariants as instr
-use Rattle.wsm_program.specs.declared.operation.Operation.TheVariants as operation
 use Rattle.wsm_program.specs.declared.program.Costs.{Costs}
 use Rattle.wsm_query.specs.Tree.{Query, Expr}
 use Rattle.wsm_record.specs.Types.{kind_type}
@@ -28,6 +27,7 @@ use Rattle.wsm_compiler.specs.TermCode.{choice, instruction, test_code, jump_unl
 use Rattle.wsm_compiler.specs.Code.{code, size, need, folds, update_section}
 use Rattle.wsm_compiler.specs.Ranges.{Range, Unfit, NoNumber, Within, of_aggregate, range, fits}
 use Rattle.wsm_compiler.specs.Program.{program_stating}
+use Rattle.wsm_compiler.proofs.Operators.{of_operator}
 use Rattle.wsm_compiler.proofs.Visits.{extended, added, added_append, visits_are}
 use Rattle.wsm_machine.proofs.FittingStacks.{no}
 use Rattle.wsm_compiler.proofs.Parts.{Comes, Labels, continued, shorter, visit_is}
@@ -99,11 +99,11 @@ code_folds_none k (If c x y) =
     let j = k + unless_tested (term_test c) (term_size c) + 1 in
     let end = j + term_size x + 1 in
     chosen_folds_none (term_test c) (term_code k c) j (term_code j x) (term_size x) (term_code end y) (term_size y) (code_folds_none k c) (code_folds_none j x) (code_folds_none end y)
-code_folds_none k (Minus x) = all_both (term_code k x) (instr.Operate operation.Neg ∷ []) (code_folds_none k x) refl
-code_folds_none k (Not x) = all_both (term_code k x) (instr.Operate operation.Not ∷ []) (code_folds_none k x) refl
+code_folds_none k (Minus x) = all_both (term_code k x) (instr.Neg ∷ []) (code_folds_none k x) refl
+code_folds_none k (Not x) = all_both (term_code k x) (instr.Not ∷ []) (code_folds_none k x) refl
 code_folds_none k (Binary op x y) =
     let right = term_code (k + term_size x) y in
-    all_both (term_code k x) (right ++ instruction op ∷ []) (code_folds_none k x) (all_both right (instruction op ∷ []) (code_folds_none (k + term_size x) y) refl)
+    all_both (term_code k x) (right ++ instruction op ∷ []) (code_folds_none k x) (all_both right (instruction op ∷ []) (code_folds_none (k + term_size x) y) (of_operator (λ i. list_all not_fold (i ∷ []) ≡ true) (λ a. refl) (λ c. refl) op))
 code_folds_none k (And x y) =
     let j = k + unless_tested (term_test x) (term_size x) + 1 in
     chosen_folds_none (term_test x) (term_code k x) j (term_code j y) (term_size y) (instr.PushBool false ∷ []) 1 (code_folds_none k x) (code_folds_none j y) refl
@@ -228,7 +228,7 @@ module _ (q : Query) (b : Costs) where
       let st = folded_so q a (suc (length accs)) in
       let rest = folds q (k + size q 0 y + 1) (suc a) accs in
       let f = and_parts (acc_fits q b acc) (accs_fit q b accs) fit in
-      let v = value_of q.records acc.kind (range q y) (range_suits c q InAggregate y (kind_type acc.kind) h.0) f.0 in
+      let v = value_of q.clock.records acc.kind (range q y) (range_suits c q InAggregate y (kind_type acc.kind) h.0) f.0 in
       let found' : found c q st.fields 0 y ≡ Some v.value = found_here c q InAggregate (reads_update q b) st.fields refl 0 y (kind_type acc.kind) h.0 (no_accs q b 0 (accumulators_of y)) ∙ v.is in
       let lc = length-code q k 0 y in
       let la = length-append is (instr.Fold a ∷ rest) in

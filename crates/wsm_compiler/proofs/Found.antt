@@ -8,7 +8,8 @@ use Rattle.wsm_interval.specs.Interval.{interval, around, rem_within, div, rem}
 use Rattle.wsm_program.specs.declared.instr.FieldTest.{FieldTest}
 use Rattle.wsm_program.specs.declared.instr.Instr.{Instr}
 use Rattle.wsm_program.specs.declared.instr.Instr.TheVariants as instr
-use Rattle.wsm_program.specs.declared.operation.Operation.TheVariants as operation
+use Rattle.wsm_interval.specs.declared.arithmetic.Arithmetic.TheVariants as arithmetics
+use Rattle.wsm_interval.specs.declared.comparison.Comparison.TheVariants as comparisons
 use Rattle.wsm_query.specs.declared.expr.Op.{Op}
 use Rattle.wsm_query.specs.declared.expr.Op.TheVariants.{Add, Sub, Mul, Div, Rem, Eq, Ne, Lt, Le, Gt, Ge}
 use Rattle.wsm_query.specs.Tree.{Query, Expr, Number, Truth, Field, EnumName, Key, KeyName, Count, Aggregate, If, Brackets, Minus, Not, Binary, And, Or}
@@ -66,8 +67,8 @@ found c q fs a (Aggregate kind e) = of_instr c (instr.Acc a) []
 found c q fs a (If t x y) =
     and_then (λ b. hulled (found c q (known_true (test_of q a t) fs) (a + aggregates t) x) (found c q (known_false (test_of q a t) fs) (a + (aggregates t + aggregates x)) y)) (test_found (test_of q a t) (found c q fs a t))
 found c q fs a (Brackets e) = found c q fs a e
-found c q fs a (Minus e) = and_then (λ x. of_instr c (instr.Operate operation.Neg) (x ∷ [])) (found c q fs a e)
-found c q fs a (Not e) = and_then (λ x. of_instr c (instr.Operate operation.Not) (x ∷ [])) (found c q fs a e)
+found c q fs a (Minus e) = and_then (λ x. of_instr c instr.Neg (x ∷ [])) (found c q fs a e)
+found c q fs a (Not e) = and_then (λ x. of_instr c instr.Not (x ∷ [])) (found c q fs a e)
 found c q fs a (Binary op x y) = and_then (λ u. and_then (λ v. of_instr c (instruction op) (v ∷ u ∷ [])) (found c q fs (a + aggregates x) y)) (found c q fs a x)
 found c q fs a (And x y) = and_then (λ b. hulled (found c q (known_true (test_of q a x) fs) (a + aggregates x) y) (Some known.Truth)) (test_found (test_of q a x) (found c q fs a x))
 found c q fs a (Or x y) = and_then (λ b. hulled (Some known.Truth) (found c q (known_false (test_of q a x) fs) (a + aggregates x) y)) (test_found (test_of q a x) (found c q fs a x))
@@ -132,24 +133,24 @@ module _ (e : State) (c : Setting) (k : ℕ) (s : State) (room : length s.stack 
   pub push_count : Makes instr.Count []
   push_count = acting e c k instr.Count [] s true _ refl refl refl refl (λ h. no h) room more
 
-  pub make_neg : (v : Known) → Makes (instr.Operate operation.Neg) (v ∷ [])
-  make_neg v = acting e c k (instr.Operate operation.Neg) (v ∷ []) s _ _ refl refl refl (one_alone _ v s.stack) (λ h. no h) room more
+  pub make_neg : (v : Known) → Makes instr.Neg (v ∷ [])
+  make_neg v = acting e c k instr.Neg (v ∷ []) s _ _ refl refl refl (one_alone _ v s.stack) (λ h. no h) room more
 
-  pub make_not : (v : Known) → Makes (instr.Operate operation.Not) (v ∷ [])
-  make_not v = acting e c k (instr.Operate operation.Not) (v ∷ []) s _ _ refl refl refl refl (λ h. no h) room more
+  pub make_not : (v : Known) → Makes instr.Not (v ∷ [])
+  make_not v = acting e c k instr.Not (v ∷ []) s _ _ refl refl refl refl (λ h. no h) room more
 
   pub make_op : (op : Op) (u v : Known) → Makes (instruction op) (v ∷ u ∷ [])
-  make_op Add u v = acting e c k (instr.Operate operation.Add) (v ∷ u ∷ []) s _ _ refl refl refl (two_alone _ v u s.stack) (λ h. no h) room more
-  make_op Sub u v = acting e c k (instr.Operate operation.Sub) (v ∷ u ∷ []) s _ _ refl refl refl (two_alone _ v u s.stack) (λ h. no h) room more
-  make_op Mul u v = acting e c k (instr.Operate operation.Mul) (v ∷ u ∷ []) s _ _ refl refl refl (two_alone _ v u s.stack) (λ h. no h) room more
-  make_op Div u v = acting e c k (instr.Operate operation.Div) (v ∷ u ∷ []) s _ _ refl refl refl (two_alone _ v u s.stack) (zero_div v u) room more
-  make_op Rem u v = acting e c k (instr.Operate operation.Rem) (v ∷ u ∷ []) s _ _ refl refl refl (two_alone _ v u s.stack) (zero_rem v u) room more
-  make_op Eq u v = acting e c k (instr.Operate operation.Eq) (v ∷ u ∷ []) s _ _ refl refl refl refl (λ h. no h) room more
-  make_op Ne u v = acting e c k (instr.Operate operation.Ne) (v ∷ u ∷ []) s _ _ refl refl refl refl (λ h. no h) room more
-  make_op Lt u v = acting e c k (instr.Operate operation.Lt) (v ∷ u ∷ []) s _ _ refl refl refl refl (λ h. no h) room more
-  make_op Le u v = acting e c k (instr.Operate operation.Le) (v ∷ u ∷ []) s _ _ refl refl refl refl (λ h. no h) room more
-  make_op Gt u v = acting e c k (instr.Operate operation.Gt) (v ∷ u ∷ []) s _ _ refl refl refl refl (λ h. no h) room more
-  make_op Ge u v = acting e c k (instr.Operate operation.Ge) (v ∷ u ∷ []) s _ _ refl refl refl refl (λ h. no h) room more
+  make_op Add u v = acting e c k (instr.Compute arithmetics.Add) (v ∷ u ∷ []) s _ _ refl refl refl (two_alone _ v u s.stack) (λ h. no h) room more
+  make_op Sub u v = acting e c k (instr.Compute arithmetics.Sub) (v ∷ u ∷ []) s _ _ refl refl refl (two_alone _ v u s.stack) (λ h. no h) room more
+  make_op Mul u v = acting e c k (instr.Compute arithmetics.Mul) (v ∷ u ∷ []) s _ _ refl refl refl (two_alone _ v u s.stack) (λ h. no h) room more
+  make_op Div u v = acting e c k (instr.Compute arithmetics.Div) (v ∷ u ∷ []) s _ _ refl refl refl (two_alone _ v u s.stack) (zero_div v u) room more
+  make_op Rem u v = acting e c k (instr.Compute arithmetics.Rem) (v ∷ u ∷ []) s _ _ refl refl refl (two_alone _ v u s.stack) (zero_rem v u) room more
+  make_op Eq u v = acting e c k (instr.Compare comparisons.Eq) (v ∷ u ∷ []) s _ _ refl refl refl refl (λ h. no h) room more
+  make_op Ne u v = acting e c k (instr.Compare comparisons.Ne) (v ∷ u ∷ []) s _ _ refl refl refl refl (λ h. no h) room more
+  make_op Lt u v = acting e c k (instr.Compare comparisons.Lt) (v ∷ u ∷ []) s _ _ refl refl refl refl (λ h. no h) room more
+  make_op Le u v = acting e c k (instr.Compare comparisons.Le) (v ∷ u ∷ []) s _ _ refl refl refl refl (λ h. no h) room more
+  make_op Gt u v = acting e c k (instr.Compare comparisons.Gt) (v ∷ u ∷ []) s _ _ refl refl refl refl (λ h. no h) room more
+  make_op Ge u v = acting e c k (instr.Compare comparisons.Ge) (v ∷ u ∷ []) s _ _ refl refl refl refl (λ h. no h) room more
 
 -- a part of n places that pushes a value, and what follows it
 pub follow : (e : State) (c : Setting) (k n : ℕ) (is js : List Instr) (s : State) (o : Option Known) (f : Known → Option State) → length is ≡ n → 0 < length is → 0 < length js →

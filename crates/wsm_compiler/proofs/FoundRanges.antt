@@ -6,7 +6,8 @@ use Rattle.wsm_interval.specs.declared.interval.Interval.{Interval}
 use Rattle.wsm_interval.specs.Interval.{add, sub, mul, div, rem, neg}
 use Rattle.wsm_program.specs.declared.instr.Instr.{Instr}
 use Rattle.wsm_program.specs.declared.instr.Instr.TheVariants as instr
-use Rattle.wsm_program.specs.declared.operation.Operation.TheVariants as operation
+use Rattle.wsm_interval.specs.declared.arithmetic.Arithmetic.TheVariants as arithmetics
+use Rattle.wsm_interval.specs.declared.comparison.Comparison.TheVariants as comparisons
 use Rattle.wsm_query.specs.declared.expr.Op.{Op}
 use Rattle.wsm_query.specs.declared.expr.Op.TheVariants.{Add, Sub, Mul, Div, Rem, Eq, Ne, Lt, Le, Gt, Ge}
 use Rattle.wsm_record.specs.declared.words.CellType.{CellType}
@@ -117,7 +118,7 @@ within_known : (o : Option Interval) → head_of (option_map (λ z. known.Number
 within_known None = refl
 within_known (Some i) = refl
 
-pub minus_found : (c : Setting) (r : Range) → suits types.Int r ≡ true → and_then (λ x. of_instr c (instr.Operate operation.Neg) (x ∷ [])) (known_of types.Int r) ≡ known_of types.Int (of_minus r)
+pub minus_found : (c : Setting) (r : Range) → suits types.Int r ≡ true → and_then (λ x. of_instr c instr.Neg (x ∷ [])) (known_of types.Int r) ≡ known_of types.Int (of_minus r)
 minus_found c Unfit h = refl
 minus_found c NoNumber h = refl
 minus_found c (Within i) h = within_known (neg i)
@@ -131,7 +132,7 @@ minus_suits (Within i) h = within_suits (neg i)
     within_suits None = refl
     within_suits (Some i) = refl
 
-pub not_found : (c : Setting) (r : Range) → suits types.Bool r ≡ true → and_then (λ x. of_instr c (instr.Operate operation.Not) (x ∷ [])) (known_of types.Bool r) ≡ known_of types.Bool r
+pub not_found : (c : Setting) (r : Range) → suits types.Bool r ≡ true → and_then (λ x. of_instr c instr.Not (x ∷ [])) (known_of types.Bool r) ≡ known_of types.Bool r
 not_found c Unfit h = refl
 not_found c NoNumber h = refl
 not_found c (Within i) h = refl
@@ -218,14 +219,14 @@ result_of op = types.Bool
 
 -- an operator on two parts whose values are told of by their ranges
 pub op_found : (c : Setting) (op : Op) (t u w : CellType) (r p : Range) → op_typed op t u ≡ true → result_of op ≡ w → suits t r ≡ true → suits u p ≡ true → OpFound c op t u w r p
-op_found c Add t u w r p h e l m = subst (λ x. OpFound c Add t u x r p) e (two_numbers c Add t u types.Int r p h l m (arithmetic c (instr.Operate operation.Add) add (λ x y. refl) r p))
-op_found c Sub t u w r p h e l m = subst (λ x. OpFound c Sub t u x r p) e (two_numbers c Sub t u types.Int r p h l m (arithmetic c (instr.Operate operation.Sub) sub (λ x y. refl) r p))
-op_found c Mul t u w r p h e l m = subst (λ x. OpFound c Mul t u x r p) e (two_numbers c Mul t u types.Int r p h l m (arithmetic c (instr.Operate operation.Mul) mul (λ x y. refl) r p))
-op_found c Div t u w r p h e l m = subst (λ x. OpFound c Div t u x r p) e (two_numbers c Div t u types.Int r p h l m (arithmetic c (instr.Operate operation.Div) div (λ x y. refl) r p))
-op_found c Rem t u w r p h e l m = subst (λ x. OpFound c Rem t u x r p) e (two_numbers c Rem t u types.Int r p h l m (arithmetic c (instr.Operate operation.Rem) rem (λ x y. refl) r p))
-op_found c Eq t u w r p h e l m = subst (λ x. OpFound c Eq t u x r p) e (two_alike c Eq t u types.Bool r p h l m (compared c (instr.Operate operation.Eq) t (of_same c (instr.Operate operation.Eq) (λ x y. refl) t) r p l))
-op_found c Ne t u w r p h e l m = subst (λ x. OpFound c Ne t u x r p) e (two_alike c Ne t u types.Bool r p h l m (compared c (instr.Operate operation.Ne) t (of_same c (instr.Operate operation.Ne) (λ x y. refl) t) r p l))
-op_found c Lt t u w r p h e l m = subst (λ x. OpFound c Lt t u x r p) e (two_numbers c Lt t u types.Bool r p h l m (compared c (instr.Operate operation.Lt) types.Int (of_numbers c (instr.Operate operation.Lt) (λ x y. refl)) r p))
-op_found c Le t u w r p h e l m = subst (λ x. OpFound c Le t u x r p) e (two_numbers c Le t u types.Bool r p h l m (compared c (instr.Operate operation.Le) types.Int (of_numbers c (instr.Operate operation.Le) (λ x y. refl)) r p))
-op_found c Gt t u w r p h e l m = subst (λ x. OpFound c Gt t u x r p) e (two_numbers c Gt t u types.Bool r p h l m (compared c (instr.Operate operation.Gt) types.Int (of_numbers c (instr.Operate operation.Gt) (λ x y. refl)) r p))
-op_found c Ge t u w r p h e l m = subst (λ x. OpFound c Ge t u x r p) e (two_numbers c Ge t u types.Bool r p h l m (compared c (instr.Operate operation.Ge) types.Int (of_numbers c (instr.Operate operation.Ge) (λ x y. refl)) r p))
+op_found c Add t u w r p h e l m = subst (λ x. OpFound c Add t u x r p) e (two_numbers c Add t u types.Int r p h l m (arithmetic c (instr.Compute arithmetics.Add) add (λ x y. refl) r p))
+op_found c Sub t u w r p h e l m = subst (λ x. OpFound c Sub t u x r p) e (two_numbers c Sub t u types.Int r p h l m (arithmetic c (instr.Compute arithmetics.Sub) sub (λ x y. refl) r p))
+op_found c Mul t u w r p h e l m = subst (λ x. OpFound c Mul t u x r p) e (two_numbers c Mul t u types.Int r p h l m (arithmetic c (instr.Compute arithmetics.Mul) mul (λ x y. refl) r p))
+op_found c Div t u w r p h e l m = subst (λ x. OpFound c Div t u x r p) e (two_numbers c Div t u types.Int r p h l m (arithmetic c (instr.Compute arithmetics.Div) div (λ x y. refl) r p))
+op_found c Rem t u w r p h e l m = subst (λ x. OpFound c Rem t u x r p) e (two_numbers c Rem t u types.Int r p h l m (arithmetic c (instr.Compute arithmetics.Rem) rem (λ x y. refl) r p))
+op_found c Eq t u w r p h e l m = subst (λ x. OpFound c Eq t u x r p) e (two_alike c Eq t u types.Bool r p h l m (compared c (instr.Compare comparisons.Eq) t (of_same c (instr.Compare comparisons.Eq) (λ x y. refl) t) r p l))
+op_found c Ne t u w r p h e l m = subst (λ x. OpFound c Ne t u x r p) e (two_alike c Ne t u types.Bool r p h l m (compared c (instr.Compare comparisons.Ne) t (of_same c (instr.Compare comparisons.Ne) (λ x y. refl) t) r p l))
+op_found c Lt t u w r p h e l m = subst (λ x. OpFound c Lt t u x r p) e (two_numbers c Lt t u types.Bool r p h l m (compared c (instr.Compare comparisons.Lt) types.Int (of_numbers c (instr.Compare comparisons.Lt) (λ x y. refl)) r p))
+op_found c Le t u w r p h e l m = subst (λ x. OpFound c Le t u x r p) e (two_numbers c Le t u types.Bool r p h l m (compared c (instr.Compare comparisons.Le) types.Int (of_numbers c (instr.Compare comparisons.Le) (λ x y. refl)) r p))
+op_found c Gt t u w r p h e l m = subst (λ x. OpFound c Gt t u x r p) e (two_numbers c Gt t u types.Bool r p h l m (compared c (instr.Compare comparisons.Gt) types.Int (of_numbers c (instr.Compare comparisons.Gt) (λ x y. refl)) r p))
+op_found c Ge t u w r p h e l m = subst (λ x. OpFound c Ge t u x r p) e (two_numbers c Ge t u types.Bool r p h l m (compared c (instr.Compare comparisons.Ge) types.Int (of_numbers c (instr.Compare comparisons.Ge) (λ x y. refl)) r p))

@@ -4,6 +4,7 @@ pub mod Parts
 pub mod Tests
 pub mod Choices
 pub mod QueryTerms
+pub mod Operators
 pub mod Sizes
 pub mod Rooms
 pub mod CodeParts

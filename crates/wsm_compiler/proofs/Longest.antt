@@ -6,7 +6,6 @@ use Rattle.std.proofs.lemmas.List.{length-map}
 use Rattle.wsm_program.specs.declared.instr.FieldTest.{FieldTest}
 use Rattle.wsm_program.specs.declared.instr.Instr.{Instr}
 use Rattle.wsm_program.specs.declared.instr.Instr.TheVariants as instr
-use Rattle.wsm_program.specs.declared.operation.Operation.TheVariants as operation
 use Rattle.wsm_program.specs.declared.program.Costs.{Costs}
 use Rattle.wsm_rules.specs.Costs.{longer, longest_of, one_more, way_from, way_of, ways, needed, windows_of_a_record, join_steps}
 use Rattle.wsm_program.specs.Instructions.{next}
@@ -18,6 +17,7 @@ use Rattle.wsm_compiler.specs.TermCode.{instruction, choice, test_code, jump_unl
 use Rattle.wsm_compiler.specs.Program.{assembled, program_of}
 use Rattle.wsm_compiler.specs.Longest.{longest, longest_ending, longest_foldings, longest_firing, needed_by_structure, NeededByStructure, untested_longest, NotLonger}
 use Rattle.wsm_machine.proofs.FittingStacks.{no}
+use Rattle.wsm_compiler.proofs.Operators.{of_operator}
 use Rattle.wsm_compiler.proofs.Tests.{plain, plain_next}
 use Rattle.wsm_compiler.proofs.Sizes.{length-term_code, length-test_code}
 
@@ -164,13 +164,13 @@ code_takes k (If c x y) =
     let end = j + term_size x + 1 in
     chosen_takes k c (term_code j x) (term_code end y) (term_size x) (term_size y) (longest x) (longest y) (code_takes k c) (length-term_code j x) (length-term_code end y) (code_takes j x) (code_takes end y)
 code_takes k (Minus x) =
-    sequence_takes k (term_code k x) (instr.Operate operation.Neg ∷ []) (k + term_size x) (longest x) 1 (behind_code k x) (code_takes k x) (plain_takes (k + term_size x) (instr.Operate operation.Neg) refl)
+    sequence_takes k (term_code k x) (instr.Neg ∷ []) (k + term_size x) (longest x) 1 (behind_code k x) (code_takes k x) (plain_takes (k + term_size x) instr.Neg refl)
 code_takes k (Not x) =
-    sequence_takes k (term_code k x) (instr.Operate operation.Not ∷ []) (k + term_size x) (longest x) 1 (behind_code k x) (code_takes k x) (plain_takes (k + term_size x) (instr.Operate operation.Not) refl)
+    sequence_takes k (term_code k x) (instr.Not ∷ []) (k + term_size x) (longest x) 1 (behind_code k x) (code_takes k x) (plain_takes (k + term_size x) instr.Not refl)
 code_takes k (Binary op x y) =
     let i = k + term_size x in
     sequence_takes k (term_code k x) (term_code i y ++ instruction op ∷ []) i (longest x) (longest y + 1) (behind_code k x) (code_takes k x)
-    (sequence_takes i (term_code i y) (instruction op ∷ []) (i + term_size y) (longest y) 1 (behind_code i y) (code_takes i y) (plain_takes (i + term_size y) (instruction op) refl))
+    (sequence_takes i (term_code i y) (instruction op ∷ []) (i + term_size y) (longest y) 1 (behind_code i y) (code_takes i y) (plain_takes (i + term_size y) (instruction op) (of_operator (λ i. plain i ≡ true) (λ a. refl) (λ c. refl) op)))
 code_takes k (And x y) =
     let j = k + unless_tested (term_test x) (term_size x) + 1 in
     chosen_takes k x (term_code j y) (instr.PushBool false ∷ []) (term_size y) 1 (longest y) 1 (code_takes k x) (length-term_code j y) refl (code_takes j y) (plain_takes (j + term_size y + 1) (instr.PushBool false) refl)

@@ -9,7 +9,6 @@ use Rattle.wsm_record.specs.declared.words.Kind.TheVariants.{Sum, Min, Max, Any,
 use Rattle.wsm_record.specs.Name.{is_among}
 use Rattle.wsm_program.specs.declared.instr.Instr.{Instr}
 use Rattle.wsm_program.specs.declared.instr.Instr.TheVariants as instr
-use Rattle.wsm_program.specs.declared.operation.Operation.TheVariants as operation
 use Rattle.wsm_program.specs.declared.program.Costs.{Costs}
 use Rattle.wsm_program.specs.Program.{Header, is_name_of, is_column, is_number_type, is_number_field, is_test, is_instr}
 use Rattle.wsm_query.specs.declared.expr.Op.{Op}
@@ -27,6 +26,7 @@ use Rattle.wsm_check.specs.declared.types.Around.TheVariants.{InColumn, InAggreg
 use Rattle.wsm_check.specs.Aggregates.{Acc, aggregates}
 use Rattle.wsm_compiler.specs.TermCode.{choice, test_code, jump_unless, instruction}
 use Rattle.wsm_compiler.specs.Code.{code, size, test_of, condition_code, folds, columns_code}
+use Rattle.wsm_compiler.proofs.Operators.{of_operator}
 use Rattle.wsm_compiler.proofs.QueryTerms.{condition_size, ended_size, folds_size, columns_size}
 use Rattle.wsm_check.specs.Terms.{resolved}
 use Rattle.wsm_check.specs.Tested.{term_number, unless_tested}
@@ -215,16 +215,16 @@ module _ (q : Query) (b : Costs) where
       (omega (arith, room))
   code_fine around k a (Brackets e) t h l accs room = code_fine around k a e t h l accs room
   code_fine around k a (Minus e) t h l accs room =
-      fine_both (code q k a e) (instr.Operate operation.Neg ∷ []) (code_fine around k a e types.Int (unary_is q around e types.Int t h).0 l accs (omega (arith, room))) refl
+      fine_both (code q k a e) (instr.Neg ∷ []) (code_fine around k a e types.Int (unary_is q around e types.Int t h).0 l accs (omega (arith, room))) refl
   code_fine around k a (Not e) t h l accs room =
-      fine_both (code q k a e) (instr.Operate operation.Not ∷ []) (code_fine around k a e types.Bool (unary_is q around e types.Bool t h).0 l accs (omega (arith, room))) refl
+      fine_both (code q k a e) (instr.Not ∷ []) (code_fine around k a e types.Bool (unary_is q around e types.Bool t h).0 l accs (omega (arith, room))) refl
   code_fine around k a (Binary op x y) t h l accs room =
       let p = two_types q around x y (op_ty op) t h in
       let f = and_parts (numbers_fit x) (numbers_fit y) l in
       let right = code q (k + size q a x) (a + aggregates x) y in
       fine_both (code q k a x) (right ++ instruction op ∷ []) (code_fine around k a x p.left p.left_is f.0 (λ e. let n = accs e in omega (arith, n)) (omega (arith, room)))
       (fine_both right (instruction op ∷ []) (code_fine around (k + size q a x) (a + aggregates x) y p.right p.right_is f.1 (λ e. let n = accs e in omega (arith, n)) (omega (arith, room)))
-      refl)
+      (of_operator (λ i. AllFine (i ∷ [])) (λ a. refl) (λ c. refl) op))
   code_fine around k a (And x y) t h l accs room =
       let p = logic_types q around x y t h in
       let f = and_parts (numbers_fit x) (numbers_fit y) l in

@@ -3,7 +3,6 @@ use Rattle.std.proofs.Common.{◌≡◌, ℕ, suc, ◌+◌, ◌<◌, true, false
 use Rattle.std.specs.Prelude.{option_map}
 use Rattle.wsm_program.specs.declared.instr.Instr.{Instr}
 use Rattle.wsm_program.specs.declared.instr.Instr.TheVariants as instr
-use Rattle.wsm_program.specs.declared.operation.Operation.TheVariants as operation
 use Rattle.wsm_query.specs.Tree.{Query, Expr}
 use Rattle.wsm_check.specs.Tested.{unless_tested}
 use Rattle.wsm_check.specs.Aggregates.{Acc, accumulators}
@@ -36,8 +35,8 @@ length-term_code k (If c x y) =
     let end = j + term_size x + 1 in
     length-chosen (term_test c) (term_code k c) (jump_unless (term_test c)) j (term_code j x) (term_size x) (term_code end y) (term_size y)
     ∙ (λ i. unless_tested (term_test c) (length-term_code k c i) + (length-term_code j x i + length-term_code end y i) + 2)
-length-term_code k (Minus x) = length-append (term_code k x) (instr.Operate operation.Neg ∷ []) ∙ ap (λ n. n + 1) (length-term_code k x)
-length-term_code k (Not x) = length-append (term_code k x) (instr.Operate operation.Not ∷ []) ∙ ap (λ n. n + 1) (length-term_code k x)
+length-term_code k (Minus x) = length-append (term_code k x) (instr.Neg ∷ []) ∙ ap (λ n. n + 1) (length-term_code k x)
+length-term_code k (Not x) = length-append (term_code k x) (instr.Not ∷ []) ∙ ap (λ n. n + 1) (length-term_code k x)
 length-term_code k (Binary op x y) =
     let right = term_code (k + term_size x) y in
     let l = length-append (term_code k x) (right ++ instruction op ∷ []) in

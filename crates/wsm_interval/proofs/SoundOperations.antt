@@ -6,8 +6,11 @@ use Rattle.std.proofs.Math.Nat.{div-mul-le_self, mul-le-mul_right, mul-le-mul_le
 use Rattle.std.proofs.Math.IntN.{*ℤ_comm}
 use Rattle.std.specs.Prelude.{IfSome, int_le, int_div, int_rem, unsigned_abs}
 use Rattle.std.specs.Int.{int_min, int_max}
+use Rattle.wsm_interval.specs.Arithmetic.{result_of}
+use Rattle.wsm_interval.specs.declared.arithmetic.Arithmetic.{Arithmetic}
+use Rattle.wsm_interval.specs.declared.arithmetic.Arithmetic.TheVariants.{Add, Sub, Mul, Div, Rem}
 use Rattle.wsm_interval.specs.declared.interval.Interval.{Interval}
-use Rattle.wsm_interval.specs.Interval.{interval, Holds, holds, within_i64, around, least, greatest, add, sub, neg, mul, div, rem, rem_within, hull}
+use Rattle.wsm_interval.specs.Interval.{interval, Holds, holds, within_i64, around, least, greatest, add, sub, neg, mul, div, rem, rem_within, computed, hull}
 use Rattle.wsm_record.specs.Schema.{is_i64}
 
 within_holds : (lo hi n : ℤ) → lo ≤ℤ n → n ≤ℤ hi → IfSome (within_i64 lo hi) (λ z. Holds z n)
@@ -216,6 +219,15 @@ rem_holds x y m n h k =
       | true ↦ λ e. tt
       | false ↦ λ e. remainder_holds x y m n h k (one_side y.lo y.hi e (trans k.0 k.1))
     ] refl
+
+-- ---- each of them
+
+pub computed_holds : (a : Arithmetic) (x y : Interval) (m n : ℤ) → Holds x m → Holds y n → IfSome (computed a x y) (λ z. Holds z (result_of a m n))
+computed_holds Add x y m n h k = add_holds x y m n h k
+computed_holds Sub x y m n h k = sub_holds x y m n h k
+computed_holds Mul x y m n h k = mul_holds x y m n h k
+computed_holds Div x y m n h k = div_holds x y m n h k
+computed_holds Rem x y m n h k = rem_holds x y m n h k
 
 -- ---- hulls
 

@@ -2,6 +2,8 @@
 use Rattle.std.specs.Prelude.{Bool, ◌&&◌, cond, ℤ, pos, neg_ℤ, ◌+ℤ◌, ◌-ℤ◌, ◌*ℤ◌, ◌≤ℤ◌, int_le, int_div, unsigned_abs, Option, Some, None}
 use Rattle.std.specs.Int.{int_min, int_max}
 use Rattle.wsm_record.specs.Schema.{is_i64}
+use Rattle.wsm_interval.specs.declared.arithmetic.Arithmetic.{Arithmetic}
+use Rattle.wsm_interval.specs.declared.arithmetic.Arithmetic.TheVariants.{Add, Sub, Mul, Div, Rem}
 use Rattle.wsm_interval.specs.declared.interval.Interval.{Interval}
 
 abbrev pub interval : ℤ → ℤ → Interval
@@ -51,6 +53,14 @@ rem_within m x = within_i64 (int_max (neg_ℤ m) (int_min x.lo (pos 0))) (int_mi
 
 abbrev pub rem : Interval → Interval → Option Interval
 rem x y = cond (holds y (pos 0)) None (rem_within (int_max (pos (unsigned_abs y.lo)) (pos (unsigned_abs y.hi)) -ℤ pos 1) x)
+
+-- what arithmetic on a number of each can give
+abbrev pub computed : Arithmetic → Interval → Interval → Option Interval
+computed Add x y = add x y
+computed Sub x y = sub x y
+computed Mul x y = mul x y
+computed Div x y = div x y
+computed Rem x y = rem x y
 
 -- the least interval that has both inside
 abbrev pub hull : Interval → Interval → Interval

@@ -1,4 +1,5 @@
 pub mod Interval
+pub mod Arithmetic
 pub mod Comparison
 pub mod Narrowing
 pub mod Vectors

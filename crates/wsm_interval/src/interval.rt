@@ -2,11 +2,13 @@
 
 ghost use Rattle.std.specs.Prelude.{◌≡◌, ◌≤◌, ℤ, pos, neg_ℤ, ◌+ℤ◌, ◌-ℤ◌, ◌*ℤ◌, ◌≤ℤ◌, int_div, int_rem, unsigned_abs, IfSome};
 ghost use Rattle.std.specs.Prelude.{true};
+ghost use Rattle.wsm_interval.specs.Arithmetic.{result_of};
 ghost use Rattle.wsm_interval.specs.Comparison.{is_true, opposite};
 ghost use Rattle.wsm_interval.specs.Interval as spec;
 ghost use Rattle.wsm_interval.specs.Interval.{Holds};
 ghost use Rattle.wsm_interval.specs.Narrowing as narrowing;
 
+use crate::arithmetic::Arithmetic;
 use crate::comparison::Comparison;
 
 /// The whole numbers from one end to the other, both of them inside.
@@ -97,6 +99,21 @@ impl Interval {
         let (c, d) = other.ends();
         let most = c.abs().max(d.abs()) - 1;
         within((-most).max(a.min(0)), most.min(b.max(0)))
+    }
+
+    /// What arithmetic on a number of this and one of the other can be. `None` too where the other
+    /// divides and holds 0.
+    pub fn compute(self, arithmetic: Arithmetic, other: Interval) -> Option<Interval>
+        ensures formula { result ≡ spec.computed arithmetic self other }
+        ensures results { (m n : ℤ) → Holds self m → Holds other n → IfSome result (λ z. Holds z (result_of arithmetic m n)) }
+    {
+        match arithmetic {
+            Arithmetic::Add => self.add(other),
+            Arithmetic::Sub => self.sub(other),
+            Arithmetic::Mul => self.mul(other),
+            Arithmetic::Div => self.div(other),
+            Arithmetic::Rem => self.rem(other),
+        }
     }
 
     /// The least interval that has both inside.

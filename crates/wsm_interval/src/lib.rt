@@ -16,8 +16,10 @@
 //! ```
 #![tactic(auto)]
 
+pub use arithmetic::Arithmetic;
 pub use comparison::Comparison;
 pub use interval::Interval;
 
+mod arithmetic;
 mod comparison;
 mod interval;

@@ -8,28 +8,26 @@ use Rattle.std.proofs.lemmas.Bool.{and_parts}
 use Rattle.wsm_interval.specs.declared.interval.Interval.{Interval}
 use Rattle.wsm_interval.specs.declared.comparison.Comparison.{Comparison}
 use Rattle.wsm_interval.specs.declared.comparison.Comparison.TheVariants.{Eq as EqTo, Ne as NeTo, Lt as LtTo, Le as LeTo, Gt as GtTo, Ge as GeTo}
-use Rattle.wsm_interval.specs.Interval.{hull, add, sub, mul, div, rem, neg}
+use Rattle.wsm_interval.specs.Interval.{hull, computed, neg}
 use Rattle.wsm_interval.specs.Narrowing.{narrow}
 use Rattle.wsm_record.specs.Schema.{FieldType, Int as IntField, Truth as TruthField, Enum as EnumField, DeclaredField, is_i64, is_field_type, is_field_after, are_fields_after}
 use Rattle.wsm_record.specs.Name.{is_name}
 use Rattle.wsm_program.specs.declared.instr.FieldTest.{FieldTest}
 use Rattle.wsm_program.specs.declared.instr.Instr.{Instr}
-use Rattle.wsm_program.specs.declared.instr.Instr.TheVariants.{PushInt, PushBool, PushEnum, Field, Key, Acc, Count, Operate, Jump, JumpIfFalse, Test, Fold, Return}
+use Rattle.wsm_program.specs.declared.instr.Instr.TheVariants.{PushInt, PushBool, PushEnum, Field, Key, Acc, Count, Compute, Neg, Compare, Not, Jump, JumpIfFalse, Test, Fold, Return}
 use Rattle.wsm_program.specs.declared.instr.SectionId.TheVariants.{Update}
-use Rattle.wsm_program.specs.declared.operation.Operation.{Operation}
-use Rattle.wsm_program.specs.declared.operation.Operation.TheVariants.{Add, Sub, Mul, Div, Rem, Neg, Eq, Ne, Lt, Le, Gt, Ge, Not}
 use Rattle.wsm_program.specs.Instructions.{opposite_test}
 use Rattle.wsm_program.specs.Program.{Name, Header, Program, is_program, is_instr}
 use Rattle.wsm_program.proofs.Lawful.{program_header}
 use Rattle.wsm_rules.specs.declared.known.Known.{Known}
 use Rattle.wsm_rules.specs.declared.known.Known.TheVariants.{Number, Truth, NameOf}
-use Rattle.wsm_rules.specs.Labels.{State, Ranges, Label, Unreached, Differing, Reached, Visit, of_one, of_two, computed, pushed, pops, folded_after, narrowed_known, narrowed, along, agree, hull_known, hull_lists, hull_states, label_with, leads, left_from, carried_to, gathered, label_of, visits_back}
+use Rattle.wsm_rules.specs.Labels.{State, Ranges, Label, Unreached, Differing, Reached, Visit, of_one, of_two, pushed, pops, folded_after, narrowed_known, narrowed, along, agree, hull_known, hull_lists, hull_states, label_with, leads, left_from, carried_to, gathered, label_of, visits_back}
 use Rattle.wsm_rules.specs.Rules.{entry, known_field, known_fields, ranges_of_record, update_visits, last_number, hull_options, value_folded, values_folded}
 use Rattle.wsm_rules.proofs.LabelPass.{with_edge, gathered_next}
 use Rattle.wsm_rules.proofs.Lawful.{lawful}
 use Rattle.wsm_semantics.proofs.Each.{all-append}
 use Rattle.wsm_machine.proofs.Operands.{rest_holds, instructions_lawful, section_lawful}
-use Rattle.wsm_machine.proofs.PushedValues.{Within, add_within, sub_within, mul_within, div_within, rem_within, neg_within}
+use Rattle.wsm_machine.proofs.PushedValues.{Within, computed_within, neg_within}
 use Rattle.wsm_machine.proofs.Ranged.{fields_lawful}
 use Rattle.wsm_machine.proofs.Words.{word_is}
 
@@ -118,21 +116,6 @@ two_words : (f : Interval → Interval → Option Interval) → ((x y : Interval
 two_words f w (Number y ∷ Number x ∷ ks) = answer_words (f x y) (w x y)
 two_words f w ks = tt
 
-computed_words : (o : Operation) (ks : List Known) → IfSome (computed o ks) (AllByRecursion KnowsWords)
-computed_words Add ks = two_words add add_within ks
-computed_words Sub ks = two_words sub sub_within ks
-computed_words Mul ks = two_words mul mul_within ks
-computed_words Div ks = two_words div div_within ks
-computed_words Rem ks = two_words rem rem_within ks
-computed_words Neg ks = one_words neg neg_within ks
-computed_words Eq ks = (tt, tt)
-computed_words Ne ks = (tt, tt)
-computed_words Lt ks = (tt, tt)
-computed_words Le ks = (tt, tt)
-computed_words Gt ks = (tt, tt)
-computed_words Ge ks = (tt, tt)
-computed_words Not ks = (tt, tt)
-
 pushed_words : (r : Ranges) (i : Instr) (s : State) → RangesWords r → PushesWord i → StateWords s → IfSome (pushed r i s) (AllByRecursion KnowsWords)
 pushed_words r (PushInt n) s w g h = (word_is n g, tt)
 pushed_words r (PushBool b) s w g h = (tt, tt)
@@ -141,7 +124,10 @@ pushed_words r (Field f) s w g h = (index_words s.fields f h.1, tt)
 pushed_words r Key s w g h = (tt, tt)
 pushed_words r (Acc a) s w g h = (index_words r.accumulators a w.1, tt)
 pushed_words r Count s w g h = (w.0, tt)
-pushed_words r (Operate o) s w g h = computed_words o s.stack
+pushed_words r (Compute a) s w g h = two_words (computed a) (computed_within a) s.stack
+pushed_words r Neg s w g h = one_words neg neg_within s.stack
+pushed_words r (Compare c) s w g h = (tt, tt)
+pushed_words r Not s w g h = (tt, tt)
 pushed_words r (Jump t) s w g h = tt
 pushed_words r (JumpIfFalse t) s w g h = tt
 pushed_words r (Test x t) s w g h = tt

@@ -8,6 +8,7 @@ pub mod Returns
 pub mod StepAnswers
 pub mod Operands
 pub mod FittingStacks
+pub mod Compared
 pub mod PushedValues
 mod NextPlaces
 pub mod ReturnedStacks

@@ -2,7 +2,7 @@
 use Rattle.std.specs.Prelude.{◌≡◌, ℕ, ◌<◌, ◌+◌, ◌⊎◌, false, List, [], ◌∷◌, length, map, Option, Some, None, is_some, option_map, slice_get, slice_index_or, IsTrue}
 use Rattle.wsm_interval.specs.Interval.{Holds}
 use Rattle.wsm_program.specs.declared.instr.Instr.{Instr}
-use Rattle.wsm_program.specs.declared.instr.Instr.TheVariants.{PushInt, PushBool, PushEnum, Field, Key, Acc, Count, Operate, Jump, JumpIfFalse, Test, Fold, Return}
+use Rattle.wsm_program.specs.declared.instr.Instr.TheVariants.{PushInt, PushBool, PushEnum, Field, Key, Acc, Count, Compute, Neg, Compare, Not, Jump, JumpIfFalse, Test, Fold, Return}
 use Rattle.wsm_program.specs.declared.instr.SectionId.{SectionId}
 use Rattle.wsm_program.specs.declared.instr.SectionId.TheVariants.{Where, Update, Fire}
 use Rattle.wsm_record.specs.declared.event.Value.{Value}
@@ -59,7 +59,10 @@ ReadsFit r ks d (Field f) = FitsRead (slice_index_or ks f Truth) (option_map (ce
 ReadsFit r ks d Key = Unit {0}
 ReadsFit r ks d (Acc a) = FitsRead (slice_index_or r.accumulators a Truth) (option_map (cell_of 0) (slice_get d.accs a))
 ReadsFit r ks d Count = FitsRead (Number r.count) (Some (Int d.count))
-ReadsFit r ks d (Operate o) = Unit {0}
+ReadsFit r ks d (Compute a) = Unit {0}
+ReadsFit r ks d Neg = Unit {0}
+ReadsFit r ks d (Compare c) = Unit {0}
+ReadsFit r ks d Not = Unit {0}
 ReadsFit r ks d (Jump t) = Unit {0}
 ReadsFit r ks d (JumpIfFalse t) = Unit {0}
 ReadsFit r ks d (Test test t) = Unit {0}

@@ -25,8 +25,8 @@ use Rattle.wsm_semantics.specs.Kept.{kept}
 use Rattle.wsm_semantics.specs.Steps.{step_rows, run}
 use Rattle.wsm_record.specs.declared.words.CellType.TheVariants as types
 use Rattle.wsm_windows.specs.declared.place.Place.{Place}
-use Rattle.wsm_program.specs.declared.instr.Instr.TheVariants.{PushInt, PushBool, Field, Acc, Count, Operate, Fold, Return}
-use Rattle.wsm_program.specs.declared.operation.Operation.TheVariants.{Gt}
+use Rattle.wsm_program.specs.declared.instr.Instr.TheVariants.{PushInt, PushBool, Field, Acc, Count, Compare, Fold, Return}
+use Rattle.wsm_interval.specs.declared.comparison.Comparison.TheVariants.{Gt}
 use Rattle.wsm_program.specs.Program.{Program}
 use Rattle.wsm_machine.specs.Meaning.{query_of, plan_of, record_cost, record_cost_by}
 
@@ -72,13 +72,13 @@ two_records_in_one_pane = refl
 
 -- HAVING SUM(n) > 10
 having_false_writes_no_row :
-    all_lines (query_of (record fixed { fire = Count ∷ Acc 0 ∷ Acc 0 ∷ PushInt (pos 10) ∷ Operate Gt ∷ Return ∷ [] }))
+    all_lines (query_of (record fixed { fire = Count ∷ Acc 0 ∷ Acc 0 ∷ PushInt (pos 10) ∷ Compare Gt ∷ Return ∷ [] }))
     (reverse (Ok (a 5 7) ∷ Ok (a 59 3) ∷ Ok (Watermark (Some 0) (pos 60)) ∷ [])) ≡ End 3 2 0 0 1 ∷ []
 having_false_writes_no_row = refl
 
 -- WHERE n > 5
 only_selected_records :
-    all_lines (query_of (record fixed { selection = Field 0 ∷ PushInt (pos 5) ∷ Operate Gt ∷ Return ∷ [] }))
+    all_lines (query_of (record fixed { selection = Field 0 ∷ PushInt (pos 5) ∷ Compare Gt ∷ Return ∷ [] }))
     (reverse (Ok (a 5 7) ∷ Ok (a 59 3) ∷ Ok (Watermark (Some 0) (pos 60)) ∷ []))
     ≡ Out (rows.Pane OnTime 0 (window (pos 0) (pos 60)) (ints (1 ∷ 7 ∷ []))) ∷ End 3 2 0 0 1 ∷ []
 only_selected_records = refl

@@ -6,8 +6,8 @@ use Rattle.wsm_record.specs.declared.event.Value.TheVariants as values
 use Rattle.wsm_record.specs.declared.words.Kind.TheVariants.{Sum}
 use Rattle.wsm_record.specs.declared.words.CellType.TheVariants as types
 use Rattle.wsm_program.specs.declared.instr.Instr.{Instr}
-use Rattle.wsm_program.specs.declared.instr.Instr.TheVariants.{PushInt, PushBool, Field, Operate, Jump, Test, Fold, Return}
-use Rattle.wsm_program.specs.declared.operation.Operation.TheVariants.{Div}
+use Rattle.wsm_program.specs.declared.instr.Instr.TheVariants.{PushInt, PushBool, Field, Compute, Jump, Test, Fold, Return}
+use Rattle.wsm_interval.specs.declared.arithmetic.Arithmetic.TheVariants.{Div}
 use Rattle.wsm_program.specs.declared.instr.SectionId.{SectionId}
 use Rattle.wsm_program.specs.declared.instr.SectionId.TheVariants.{Where, Update, Fire}
 use Rattle.wsm_record.specs.declared.cell.Cell.TheVariants as cells
@@ -29,10 +29,10 @@ run_at n s code = run_in (record {
   inputs = record { key = 1; values = values.Int n ∷ []; count = pos 3; accs = values.Int (pos 12) ∷ [] };
 })
 
-shares : run_at (pos 3) Update (test 0 compare.Ne (pos 0) 5 ∷ PushInt (pos 100) ∷ Field 0 ∷ Operate Div ∷ Jump 6 ∷ PushInt (pos 0) ∷ Fold 0 ∷ Return ∷ []) ≡ folded Done 7 ([]) (values.Int (pos 33))
+shares : run_at (pos 3) Update (test 0 compare.Ne (pos 0) 5 ∷ PushInt (pos 100) ∷ Field 0 ∷ Compute Div ∷ Jump 6 ∷ PushInt (pos 0) ∷ Fold 0 ∷ Return ∷ []) ≡ folded Done 7 ([]) (values.Int (pos 33))
 shares = refl
 
-shares_none : run_at (pos 0) Update (test 0 compare.Ne (pos 0) 5 ∷ PushInt (pos 100) ∷ Field 0 ∷ Operate Div ∷ Jump 6 ∷ PushInt (pos 0) ∷ Fold 0 ∷ Return ∷ []) ≡ folded Done 4 ([]) (values.Int (pos 0))
+shares_none : run_at (pos 0) Update (test 0 compare.Ne (pos 0) 5 ∷ PushInt (pos 100) ∷ Field 0 ∷ Compute Div ∷ Jump 6 ∷ PushInt (pos 0) ∷ Fold 0 ∷ Return ∷ []) ≡ folded Done 4 ([]) (values.Int (pos 0))
 shares_none = refl
 
 equal_below : run_at (pos 4) Where (test 0 compare.Eq (pos 5) 3 ∷ PushBool true ∷ Jump 4 ∷ PushBool false ∷ Return ∷ []) ≡ unfolded Done 3 (cells.Bool false ∷ [])

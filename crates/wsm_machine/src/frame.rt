@@ -6,7 +6,7 @@ ghost use Rattle.std.specs.Int.{w64};
 ghost use Rattle.wsm_record.specs.declared.words.CellType.TheVariants as types;
 ghost use Rattle.wsm_record.specs.declared.cell.Cell.TheVariants as cells;
 ghost use Rattle.wsm_record.specs.declared.limits.TheConstants.{MAX_ACCUMULATORS};
-ghost use Rattle.wsm_program.specs.declared.operation.Operands.TheVariants.{Numbers, One, Alike};
+ghost use Rattle.wsm_program.specs.declared.operands.Operands.TheVariants.{Numbers, One, Alike};
 ghost use Rattle.wsm_machine.specs.Step.{has_types};
 ghost use Rattle.wsm_machine.specs.Steps.{operand_trap, Answers, AnswersNumber};
 

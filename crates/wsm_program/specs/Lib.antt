@@ -1,6 +1,6 @@
 pub mod Program
 pub mod Rows
-pub mod Operations
+pub mod Operands
 pub mod Opcodes
 pub mod Comparisons
 pub mod Instructions

@@ -20,7 +20,8 @@
 //! assert!(rt; program.is_err_and(|e| e == DecodeRefusal::Operand)); // accumulator 1 isn't there
 //! ```
 //!
-//! - `instr`, `operation`: the instructions, and what each is
+//! - `instr`: the instructions, and what each is
+//! - `operands`: what an instruction takes from the stack
 //! - `row`: what an instruction is, whatever its argument
 //! - `comparison`: the numbers of comparisons
 //! - `text`: what a section and an instruction are printed as
@@ -32,18 +33,18 @@
 
 pub use comparison::{comparison_number, comparison_of_number};
 pub use instr::{Argument, Edges, FieldTest, Instr, Opcode, SectionId, kind_of};
-pub use operation::{Operands, Operation};
+pub use operands::Operands;
 pub use program::{Costs, Header, Program, Section};
 pub use refusal::DecodeRefusal;
 pub use wsm_admission::Clock;
-pub use wsm_interval::Comparison;
+pub use wsm_interval::{Arithmetic, Comparison};
 pub use wsm_record::CellType;
 
 mod comparison;
 mod instr;
 mod judging;
 pub mod named;
-mod operation;
+mod operands;
 mod program;
 mod refusal;
 mod row;

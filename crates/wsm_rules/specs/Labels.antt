@@ -5,16 +5,14 @@ use Rattle.std.specs.Bool.{beq}
 use Rattle.wsm_interval.specs.declared.Interval.{Interval}
 use Rattle.wsm_program.specs.declared.FieldTest.{FieldTest}
 use Rattle.wsm_program.specs.declared.Instr.{Instr}
-use Rattle.wsm_program.specs.declared.Instr.TheVariants.{PushInt, PushBool, PushEnum, Field, Key, Acc, Count, Operate, Jump, JumpIfFalse, Test, Fold, Return}
-use Rattle.wsm_program.specs.declared.Operation.{Operation}
-use Rattle.wsm_program.specs.declared.Operation.TheVariants.{Add, Sub, Mul, Div, Rem, Neg, Eq, Ne, Lt, Le, Gt, Ge, Not}
+use Rattle.wsm_program.specs.declared.Instr.TheVariants.{PushInt, PushBool, PushEnum, Field, Key, Acc, Count, Compute, Neg, Compare, Not, Jump, JumpIfFalse, Test, Fold, Return}
 use Rattle.wsm_program.specs.Instructions as table
 use Rattle.wsm_program.specs.declared.Edges.{Edges}
 use Rattle.wsm_program.specs.declared.Edges.TheVariants.{Nowhere, Next, Target, Either, Tested}
 use Rattle.wsm_program.specs.Instructions.{edges, next, opposite_test}
 use Rattle.wsm_rules.specs.declared.known.Known.{Known}
 use Rattle.wsm_rules.specs.declared.known.Known.TheVariants.{Number, Truth, NameOf}
-use Rattle.wsm_interval.specs.Interval.{interval, add, sub, mul, div, rem, neg, hull}
+use Rattle.wsm_interval.specs.Interval.{interval, computed, neg, hull}
 use Rattle.wsm_interval.specs.Narrowing.{narrow}
 
 -- what is known before an instruction
@@ -45,22 +43,6 @@ abbrev pub of_two : (Interval → Interval → Option Interval) → List Known �
 of_two f (Number y ∷ Number x ∷ s) = option_map (λ z. Number z ∷ []) (f x y)
 of_two f _ = None
 
--- what an operation answers; None where arithmetic has no interval
-abbrev pub computed : Operation → List Known → Option (List Known)
-computed Add s = of_two add s
-computed Sub s = of_two sub s
-computed Mul s = of_two mul s
-computed Div s = of_two div s
-computed Rem s = of_two rem s
-computed Neg s = of_one neg s
-computed Eq s = Some (Truth ∷ [])
-computed Ne s = Some (Truth ∷ [])
-computed Lt s = Some (Truth ∷ [])
-computed Le s = Some (Truth ∷ [])
-computed Gt s = Some (Truth ∷ [])
-computed Ge s = Some (Truth ∷ [])
-computed Not s = Some (Truth ∷ [])
-
 -- what an instruction pushes; None where arithmetic has no interval
 abbrev pub pushed : Ranges → Instr → State → Option (List Known)
 pushed r (PushInt n) s = Some (Number (interval n n) ∷ [])
@@ -70,7 +52,10 @@ pushed r (Field f) s = Some (slice_index_or s.fields f Truth ∷ [])
 pushed r Key s = Some (NameOf 0 ∷ [])
 pushed r (Acc a) s = Some (slice_index_or r.accumulators a Truth ∷ [])
 pushed r Count s = Some (Number r.count ∷ [])
-pushed r (Operate o) s = computed o s.stack
+pushed r (Compute a) s = of_two (computed a) s.stack
+pushed r Neg s = of_one neg s.stack
+pushed r (Compare c) s = Some (Truth ∷ [])
+pushed r Not s = Some (Truth ∷ [])
 pushed r (Jump t) s = Some []
 pushed r (JumpIfFalse t) s = Some []
 pushed r (Test test t) s = Some []

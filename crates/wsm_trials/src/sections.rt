@@ -3,7 +3,7 @@
 use crate::noise::Noise;
 use std::alloc::Global;
 use std::test::Fail;
-use wsm_bytecode::{Comparison, FieldTest, Instr, Operation, SectionId};
+use wsm_bytecode::{Arithmetic, Comparison, FieldTest, Instr, SectionId};
 
 /// What a place of the stack holds.
 #[derive(Clone, Copy, PartialEq, Eq)]
@@ -38,23 +38,23 @@ const NUMBERS: [i64; 12] = [
 ];
 
 const ARITHMETIC: [Instr; 8] = [
-    Instr::Operate(Operation::Add),
-    Instr::Operate(Operation::Add),
-    Instr::Operate(Operation::Add),
-    Instr::Operate(Operation::Sub),
-    Instr::Operate(Operation::Sub),
-    Instr::Operate(Operation::Mul),
-    Instr::Operate(Operation::Div),
-    Instr::Operate(Operation::Rem),
+    Instr::Compute(Arithmetic::Add),
+    Instr::Compute(Arithmetic::Add),
+    Instr::Compute(Arithmetic::Add),
+    Instr::Compute(Arithmetic::Sub),
+    Instr::Compute(Arithmetic::Sub),
+    Instr::Compute(Arithmetic::Mul),
+    Instr::Compute(Arithmetic::Div),
+    Instr::Compute(Arithmetic::Rem),
 ];
 
 const COMPARISONS: [Instr; 6] = [
-    Instr::Operate(Operation::Eq),
-    Instr::Operate(Operation::Ne),
-    Instr::Operate(Operation::Lt),
-    Instr::Operate(Operation::Le),
-    Instr::Operate(Operation::Gt),
-    Instr::Operate(Operation::Ge),
+    Instr::Compare(Comparison::Eq),
+    Instr::Compare(Comparison::Ne),
+    Instr::Compare(Comparison::Lt),
+    Instr::Compare(Comparison::Le),
+    Instr::Compare(Comparison::Gt),
+    Instr::Compare(Comparison::Ge),
 ];
 
 const TESTS: [Comparison; 6] = [
@@ -120,7 +120,7 @@ impl Draft {
         self.put(Instr::Test(field_test(noise), self.ahead(5)))?;
         self.put(Instr::PushInt(noise.one_of(&NUMBERS, 1)))?;
         self.put(Instr::Field(0))?;
-        self.put(Instr::Operate(Operation::Div))?;
+        self.put(Instr::Compute(Arithmetic::Div))?;
         self.put(Instr::Jump(self.ahead(2)))?;
         self.push(Instr::PushInt(noise.one_of(&NUMBERS, 1)), Held::Int)
     }
@@ -142,8 +142,8 @@ impl Draft {
     // Another value of the type on top, in its place.
     fn turn(&mut self) -> Result<(), Fail> {
         match self.stack.last() {
-            Some(Held::Int) => self.put(Instr::Operate(Operation::Neg)),
-            Some(Held::Bool) => self.put(Instr::Operate(Operation::Not)),
+            Some(Held::Int) => self.put(Instr::Neg),
+            Some(Held::Bool) => self.put(Instr::Not),
             Some(Held::Key) | None => Ok(()),
         }
     }
@@ -160,21 +160,24 @@ impl Draft {
         match (under, top) {
             (Held::Int, Held::Int) if noise.below(3) > 0 => {
                 self.push(
-                    noise.one_of(&ARITHMETIC, Instr::Operate(Operation::Add)),
+                    noise.one_of(&ARITHMETIC, Instr::Compute(Arithmetic::Add)),
                     Held::Int,
                 )
             }
             (Held::Int, Held::Int) => {
                 self.push(
-                    noise.one_of(&COMPARISONS, Instr::Operate(Operation::Lt)),
+                    noise.one_of(&COMPARISONS, Instr::Compare(Comparison::Lt)),
                     Held::Bool,
                 )
             }
             (Held::Bool, Held::Bool) | (Held::Key, Held::Key) => {
                 self.push(
                     noise.one_of(
-                        &[Instr::Operate(Operation::Eq), Instr::Operate(Operation::Ne)],
-                        Instr::Operate(Operation::Eq),
+                        &[
+                            Instr::Compare(Comparison::Eq),
+                            Instr::Compare(Comparison::Ne),
+                        ],
+                        Instr::Compare(Comparison::Eq),
                     ),
                     Held::Bool,
                 )
@@ -201,18 +204,18 @@ impl Draft {
             (Some(Held::Int), Held::Bool) => {
                 self.put(Instr::PushInt(noise.one_of(&NUMBERS, 1)))?;
                 self.push(
-                    noise.one_of(&COMPARISONS, Instr::Operate(Operation::Lt)),
+                    noise.one_of(&COMPARISONS, Instr::Compare(Comparison::Lt)),
                     Held::Bool,
                 )
             }
             (Some(Held::Key), Held::Bool) => {
                 self.put(Instr::Key)?;
-                self.push(Instr::Operate(Operation::Eq), Held::Bool)
+                self.push(Instr::Compare(Comparison::Eq), Held::Bool)
             }
             (Some(Held::Bool), Held::Int) => self.choose(noise),
             (Some(Held::Key), Held::Int) => {
                 self.put(Instr::PushEnum(0, 0))?;
-                self.put(Instr::Operate(Operation::Ne))?;
+                self.put(Instr::Compare(Comparison::Ne))?;
                 self.choose(noise)
             }
             (Some(held), _) => {
@@ -242,7 +245,7 @@ impl Draft {
     // Takes the number on top away.
     fn let_go(&mut self) -> Result<(), Fail> {
         self.put(Instr::PushInt(0))?;
-        self.put(Instr::Operate(Operation::Lt))?;
+        self.put(Instr::Compare(Comparison::Lt))?;
         self.put(Instr::JumpIfFalse(self.ahead(1)))
     }
 
@@ -360,10 +363,10 @@ fn wild(noise: &mut Noise) -> Instr {
         Instr::Key,
         Instr::Acc(small),
         Instr::Count,
-        noise.one_of(&ARITHMETIC, Instr::Operate(Operation::Add)),
-        Instr::Operate(Operation::Neg),
-        noise.one_of(&COMPARISONS, Instr::Operate(Operation::Lt)),
-        Instr::Operate(Operation::Not),
+        noise.one_of(&ARITHMETIC, Instr::Compute(Arithmetic::Add)),
+        Instr::Neg,
+        noise.one_of(&COMPARISONS, Instr::Compare(Comparison::Lt)),
+        Instr::Not,
         Instr::Jump(place),
         Instr::JumpIfFalse(place),
         Instr::Test(field_test(noise), place),

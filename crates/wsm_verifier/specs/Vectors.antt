@@ -1,7 +1,8 @@
 -- Worked programs, computed by the definitions.
 use Rattle.std.specs.Prelude.{◌≡◌, refl, ℕ, ℤ, List, map, Result, true, false, [], ◌∷◌, pos, negsuc, Ok, Err, None, Some}
-use Rattle.wsm_program.specs.declared.Instr.TheVariants.{PushInt, PushBool, PushEnum, Field, Key, Acc, Count, Operate, Jump, JumpIfFalse, Fold, Return}
-use Rattle.wsm_program.specs.declared.Operation.TheVariants.{Add, Sub, Div, Rem, Neg, Eq, Lt, Gt}
+use Rattle.wsm_program.specs.declared.Instr.TheVariants.{PushInt, PushBool, PushEnum, Field, Key, Acc, Count, Compute, Neg, Compare, Jump, JumpIfFalse, Fold, Return}
+use Rattle.wsm_interval.specs.declared.Arithmetic.TheVariants.{Add, Sub, Div, Rem}
+use Rattle.wsm_interval.specs.declared.Comparison.TheVariants.{Eq, Lt, Gt}
 use Rattle.wsm_program.specs.declared.SectionId.TheVariants.{Where, Update, Fire}
 use Rattle.wsm_record.specs.declared.Kind.TheVariants as kind
 use Rattle.wsm_windows.specs.declared.Shape.{Shape}
@@ -91,41 +92,41 @@ session = refl
 
 -- a join's hull has 0 in the divisor, whichever branch pushes it; the longer branch decides the longest path
 
-join_zero : judged (record base { columns = (column.Int ∷ []); fire = (PushInt (pos 100) ∷ Count ∷ PushInt (pos 5) ∷ Operate Gt ∷ JumpIfFalse 7 ∷ PushInt (pos 1) ∷ Jump 8 ∷ PushInt (pos 0) ∷ Operate Div ∷ PushBool true ∷ Return ∷ []) }) ≡ Err (refused (Code Fire) 8 rule.MayDivideByZero)
+join_zero : judged (record base { columns = (column.Int ∷ []); fire = (PushInt (pos 100) ∷ Count ∷ PushInt (pos 5) ∷ Compare Gt ∷ JumpIfFalse 7 ∷ PushInt (pos 1) ∷ Jump 8 ∷ PushInt (pos 0) ∷ Compute Div ∷ PushBool true ∷ Return ∷ []) }) ≡ Err (refused (Code Fire) 8 rule.MayDivideByZero)
 join_zero = refl
 
-join_zero_first : judged (record base { columns = (column.Int ∷ []); fire = (PushInt (pos 100) ∷ Count ∷ PushInt (pos 5) ∷ Operate Gt ∷ JumpIfFalse 7 ∷ PushInt (pos 0) ∷ Jump 8 ∷ PushInt (pos 3) ∷ Operate Div ∷ PushBool true ∷ Return ∷ []) }) ≡ Err (refused (Code Fire) 8 rule.MayDivideByZero)
+join_zero_first : judged (record base { columns = (column.Int ∷ []); fire = (PushInt (pos 100) ∷ Count ∷ PushInt (pos 5) ∷ Compare Gt ∷ JumpIfFalse 7 ∷ PushInt (pos 0) ∷ Jump 8 ∷ PushInt (pos 3) ∷ Compute Div ∷ PushBool true ∷ Return ∷ []) }) ≡ Err (refused (Code Fire) 8 rule.MayDivideByZero)
 join_zero_first = refl
 
-join_around_zero : judged (record base { columns = (column.Int ∷ []); fire = (PushInt (pos 100) ∷ Count ∷ PushInt (pos 5) ∷ Operate Gt ∷ JumpIfFalse 7 ∷ PushInt (pos 1) ∷ Jump 8 ∷ PushInt (negsuc 0) ∷ Operate Div ∷ PushBool true ∷ Return ∷ []) }) ≡ Err (refused (Code Fire) 8 rule.MayDivideByZero)
+join_around_zero : judged (record base { columns = (column.Int ∷ []); fire = (PushInt (pos 100) ∷ Count ∷ PushInt (pos 5) ∷ Compare Gt ∷ JumpIfFalse 7 ∷ PushInt (pos 1) ∷ Jump 8 ∷ PushInt (negsuc 0) ∷ Compute Div ∷ PushBool true ∷ Return ∷ []) }) ≡ Err (refused (Code Fire) 8 rule.MayDivideByZero)
 join_around_zero = refl
 
-join_ten : judged (record base { columns = (column.Int ∷ []); fire = (PushInt (pos 100) ∷ Count ∷ PushInt (pos 5) ∷ Operate Gt ∷ JumpIfFalse 7 ∷ PushInt (pos 1) ∷ Jump 8 ∷ PushInt (pos 3) ∷ Operate Div ∷ PushBool true ∷ Return ∷ []); budget = costs 5 10 6 }) ≡ Ok (costs 5 10 6)
+join_ten : judged (record base { columns = (column.Int ∷ []); fire = (PushInt (pos 100) ∷ Count ∷ PushInt (pos 5) ∷ Compare Gt ∷ JumpIfFalse 7 ∷ PushInt (pos 1) ∷ Jump 8 ∷ PushInt (pos 3) ∷ Compute Div ∷ PushBool true ∷ Return ∷ []); budget = costs 5 10 6 }) ≡ Ok (costs 5 10 6)
 join_ten = refl
 
-join_nine : judged (record base { columns = (column.Int ∷ []); fire = (PushInt (pos 100) ∷ Count ∷ PushInt (pos 5) ∷ Operate Gt ∷ JumpIfFalse 7 ∷ PushInt (pos 1) ∷ Jump 8 ∷ PushInt (pos 3) ∷ Operate Div ∷ PushBool true ∷ Return ∷ []); budget = costs 5 9 6 }) ≡ Err (refused Budget 0 rule.BudgetPane)
+join_nine : judged (record base { columns = (column.Int ∷ []); fire = (PushInt (pos 100) ∷ Count ∷ PushInt (pos 5) ∷ Compare Gt ∷ JumpIfFalse 7 ∷ PushInt (pos 1) ∷ Jump 8 ∷ PushInt (pos 3) ∷ Compute Div ∷ PushBool true ∷ Return ∷ []); budget = costs 5 9 6 }) ≡ Err (refused Budget 0 rule.BudgetPane)
 join_nine = refl
 
 -- the least number by -1
 
-least_div : judged (record base { columns = (column.Int ∷ []); fire = (PushInt (negsuc 9223372036854775807) ∷ PushInt (negsuc 0) ∷ Operate Div ∷ PushBool true ∷ Return ∷ []) }) ≡ Err (refused (Code Fire) 2 rule.MayOverflow)
+least_div : judged (record base { columns = (column.Int ∷ []); fire = (PushInt (negsuc 9223372036854775807) ∷ PushInt (negsuc 0) ∷ Compute Div ∷ PushBool true ∷ Return ∷ []) }) ≡ Err (refused (Code Fire) 2 rule.MayOverflow)
 least_div = refl
 
-least_rem : judged (record base { columns = (column.Int ∷ []); fire = (PushInt (negsuc 9223372036854775807) ∷ PushInt (negsuc 0) ∷ Operate Rem ∷ PushBool true ∷ Return ∷ []); budget = costs 5 5 6 }) ≡ Ok (costs 5 5 6)
+least_rem : judged (record base { columns = (column.Int ∷ []); fire = (PushInt (negsuc 9223372036854775807) ∷ PushInt (negsuc 0) ∷ Compute Rem ∷ PushBool true ∷ Return ∷ []); budget = costs 5 5 6 }) ≡ Ok (costs 5 5 6)
 least_rem = refl
 
-least_rem_four : judged (record base { columns = (column.Int ∷ []); fire = (PushInt (negsuc 9223372036854775807) ∷ PushInt (negsuc 0) ∷ Operate Rem ∷ PushBool true ∷ Return ∷ []); budget = costs 5 4 6 }) ≡ Err (refused Budget 0 rule.BudgetPane)
+least_rem_four : judged (record base { columns = (column.Int ∷ []); fire = (PushInt (negsuc 9223372036854775807) ∷ PushInt (negsuc 0) ∷ Compute Rem ∷ PushBool true ∷ Return ∷ []); budget = costs 5 4 6 }) ≡ Err (refused Budget 0 rule.BudgetPane)
 least_rem_four = refl
 
 -- an average is accepted, a quotient by a sum from 0 isn't
 
-average : judged (record base { columns = (column.Int ∷ []); fire = (Acc 0 ∷ Count ∷ Operate Div ∷ PushBool true ∷ Return ∷ []) }) ≡ Ok (costs 5 5 6)
+average : judged (record base { columns = (column.Int ∷ []); fire = (Acc 0 ∷ Count ∷ Compute Div ∷ PushBool true ∷ Return ∷ []) }) ≡ Ok (costs 5 5 6)
 average = refl
 
-by_sum : judged (record base { columns = (column.Int ∷ []); fire = (PushInt (pos 100) ∷ Acc 0 ∷ Operate Div ∷ PushBool true ∷ Return ∷ []) }) ≡ Err (refused (Code Fire) 2 rule.MayDivideByZero)
+by_sum : judged (record base { columns = (column.Int ∷ []); fire = (PushInt (pos 100) ∷ Acc 0 ∷ Compute Div ∷ PushBool true ∷ Return ∷ []) }) ≡ Err (refused (Code Fire) 2 rule.MayDivideByZero)
 by_sum = refl
 
-by_sum_from_one : judged (record base { columns = (column.Int ∷ []); fire = (PushInt (pos 100) ∷ Acc 0 ∷ Operate Div ∷ PushBool true ∷ Return ∷ []); fields = (Int (pos 1) (pos 100) ∷ []) }) ≡ Ok (costs 5 5 6)
+by_sum_from_one : judged (record base { columns = (column.Int ∷ []); fire = (PushInt (pos 100) ∷ Acc 0 ∷ Compute Div ∷ PushBool true ∷ Return ∷ []); fields = (Int (pos 1) (pos 100) ∷ []) }) ≡ Ok (costs 5 5 6)
 by_sum_from_one = refl
 
 -- a sum over all records leaves 64 bits
@@ -185,44 +186,44 @@ fold_twice = refl
 fold_other : judged (record base { update = (Field 0 ∷ Fold 0 ∷ Field 0 ∷ Fold 1 ∷ Return ∷ []); kinds = (kind.Sum ∷ kind.Min ∷ []) }) ≡ Ok (costs 7 4 6)
 fold_other = refl
 
-fold_one_side : judged (record base { update = (Field 0 ∷ PushInt (pos 5) ∷ Operate Lt ∷ JumpIfFalse 6 ∷ Field 0 ∷ Fold 0 ∷ Return ∷ []) }) ≡ Err (refused (Code Update) 6 rule.Join)
+fold_one_side : judged (record base { update = (Field 0 ∷ PushInt (pos 5) ∷ Compare Lt ∷ JumpIfFalse 6 ∷ Field 0 ∷ Fold 0 ∷ Return ∷ []) }) ≡ Err (refused (Code Update) 6 rule.Join)
 fold_one_side = refl
 
-fold_both_sides : judged (record base { update = (Field 0 ∷ PushInt (pos 5) ∷ Operate Lt ∷ JumpIfFalse 7 ∷ PushInt (pos 1) ∷ Fold 0 ∷ Return ∷ PushInt (pos 2) ∷ Fold 0 ∷ Return ∷ []) }) ≡ Ok (costs 9 4 6)
+fold_both_sides : judged (record base { update = (Field 0 ∷ PushInt (pos 5) ∷ Compare Lt ∷ JumpIfFalse 7 ∷ PushInt (pos 1) ∷ Fold 0 ∷ Return ∷ PushInt (pos 2) ∷ Fold 0 ∷ Return ∷ []) }) ≡ Ok (costs 9 4 6)
 fold_both_sides = refl
 
 -- an accumulator's range is the hull of what all its FOLDs fold
 
-all_folds : judged (record base { update = (Field 0 ∷ PushInt (pos 5) ∷ Operate Lt ∷ JumpIfFalse 7 ∷ PushInt (pos 1) ∷ Fold 0 ∷ Return ∷ PushInt (pos 0) ∷ Fold 0 ∷ Return ∷ []); kinds = (kind.Min ∷ []); columns = (column.Int ∷ []); fire = (PushInt (pos 1) ∷ Acc 0 ∷ Operate Div ∷ PushBool true ∷ Return ∷ []) }) ≡ Err (refused (Code Fire) 2 rule.MayDivideByZero)
+all_folds : judged (record base { update = (Field 0 ∷ PushInt (pos 5) ∷ Compare Lt ∷ JumpIfFalse 7 ∷ PushInt (pos 1) ∷ Fold 0 ∷ Return ∷ PushInt (pos 0) ∷ Fold 0 ∷ Return ∷ []); kinds = (kind.Min ∷ []); columns = (column.Int ∷ []); fire = (PushInt (pos 1) ∷ Acc 0 ∷ Compute Div ∷ PushBool true ∷ Return ∷ []) }) ≡ Err (refused (Code Fire) 2 rule.MayDivideByZero)
 all_folds = refl
 
-all_folds_first : judged (record base { update = (Field 0 ∷ PushInt (pos 5) ∷ Operate Lt ∷ JumpIfFalse 7 ∷ PushInt (pos 0) ∷ Fold 0 ∷ Return ∷ PushInt (pos 1) ∷ Fold 0 ∷ Return ∷ []); kinds = (kind.Min ∷ []); columns = (column.Int ∷ []); fire = (PushInt (pos 1) ∷ Acc 0 ∷ Operate Div ∷ PushBool true ∷ Return ∷ []) }) ≡ Err (refused (Code Fire) 2 rule.MayDivideByZero)
+all_folds_first : judged (record base { update = (Field 0 ∷ PushInt (pos 5) ∷ Compare Lt ∷ JumpIfFalse 7 ∷ PushInt (pos 0) ∷ Fold 0 ∷ Return ∷ PushInt (pos 1) ∷ Fold 0 ∷ Return ∷ []); kinds = (kind.Min ∷ []); columns = (column.Int ∷ []); fire = (PushInt (pos 1) ∷ Acc 0 ∷ Compute Div ∷ PushBool true ∷ Return ∷ []) }) ≡ Err (refused (Code Fire) 2 rule.MayDivideByZero)
 all_folds_first = refl
 
-sum_of_one : judged (record base { fields = (Int (pos 5) (pos 9) ∷ []); columns = (column.Int ∷ []); fire = (PushInt (pos 1) ∷ Acc 0 ∷ PushInt (pos 5) ∷ Operate Sub ∷ Operate Div ∷ PushBool true ∷ Return ∷ []) }) ≡ Err (refused (Code Fire) 4 rule.MayDivideByZero)
+sum_of_one : judged (record base { fields = (Int (pos 5) (pos 9) ∷ []); columns = (column.Int ∷ []); fire = (PushInt (pos 1) ∷ Acc 0 ∷ PushInt (pos 5) ∷ Compute Sub ∷ Compute Div ∷ PushBool true ∷ Return ∷ []) }) ≡ Err (refused (Code Fire) 4 rule.MayDivideByZero)
 sum_of_one = refl
 
-sum_above : judged (record base { fields = (Int (pos 5) (pos 9) ∷ []); columns = (column.Int ∷ []); fire = (PushInt (pos 1) ∷ Acc 0 ∷ PushInt (pos 4) ∷ Operate Sub ∷ Operate Div ∷ PushBool true ∷ Return ∷ []) }) ≡ Ok (costs 5 7 6)
+sum_above : judged (record base { fields = (Int (pos 5) (pos 9) ∷ []); columns = (column.Int ∷ []); fire = (PushInt (pos 1) ∷ Acc 0 ∷ PushInt (pos 4) ∷ Compute Sub ∷ Compute Div ∷ PushBool true ∷ Return ∷ []) }) ≡ Ok (costs 5 7 6)
 sum_above = refl
 
-all_folds_not_zero : judged (record base { update = (Field 0 ∷ PushInt (pos 5) ∷ Operate Lt ∷ JumpIfFalse 7 ∷ PushInt (pos 1) ∷ Fold 0 ∷ Return ∷ PushInt (pos 2) ∷ Fold 0 ∷ Return ∷ []); kinds = (kind.Min ∷ []); columns = (column.Int ∷ []); fire = (PushInt (pos 1) ∷ Acc 0 ∷ Operate Div ∷ PushBool true ∷ Return ∷ []) }) ≡ Ok (costs 9 5 6)
+all_folds_not_zero : judged (record base { update = (Field 0 ∷ PushInt (pos 5) ∷ Compare Lt ∷ JumpIfFalse 7 ∷ PushInt (pos 1) ∷ Fold 0 ∷ Return ∷ PushInt (pos 2) ∷ Fold 0 ∷ Return ∷ []); kinds = (kind.Min ∷ []); columns = (column.Int ∷ []); fire = (PushInt (pos 1) ∷ Acc 0 ∷ Compute Div ∷ PushBool true ∷ Return ∷ []) }) ≡ Ok (costs 9 5 6)
 all_folds_not_zero = refl
 
 -- the stack: too few operands, a 33rd value
 
-too_few : judged (record base { fire = (Operate Neg ∷ Acc 0 ∷ PushBool true ∷ Return ∷ []) }) ≡ Err (refused (Code Fire) 0 rule.StackUnderflow)
+too_few : judged (record base { fire = (Neg ∷ Acc 0 ∷ PushBool true ∷ Return ∷ []) }) ≡ Err (refused (Code Fire) 0 rule.StackUnderflow)
 too_few = refl
 
-enough : judged (record base { fire = (Count ∷ Operate Neg ∷ Acc 0 ∷ PushBool true ∷ Return ∷ []) }) ≡ Ok (costs 5 5 6)
+enough : judged (record base { fire = (Count ∷ Neg ∷ Acc 0 ∷ PushBool true ∷ Return ∷ []) }) ≡ Ok (costs 5 5 6)
 enough = refl
 
-too_few_first : judged (record base { fire = (PushBool true ∷ Operate Add ∷ Acc 0 ∷ PushBool true ∷ Return ∷ []) }) ≡ Err (refused (Code Fire) 1 rule.StackUnderflow)
+too_few_first : judged (record base { fire = (PushBool true ∷ Compute Add ∷ Acc 0 ∷ PushBool true ∷ Return ∷ []) }) ≡ Err (refused (Code Fire) 1 rule.StackUnderflow)
 too_few_first = refl
 
-thirty_three : judged (record base { selection = (PushBool true ∷ PushBool true ∷ PushBool true ∷ PushBool true ∷ PushBool true ∷ PushBool true ∷ PushBool true ∷ PushBool true ∷ PushBool true ∷ PushBool true ∷ PushBool true ∷ PushBool true ∷ PushBool true ∷ PushBool true ∷ PushBool true ∷ PushBool true ∷ PushBool true ∷ PushBool true ∷ PushBool true ∷ PushBool true ∷ PushBool true ∷ PushBool true ∷ PushBool true ∷ PushBool true ∷ PushBool true ∷ PushBool true ∷ PushBool true ∷ PushBool true ∷ PushBool true ∷ PushBool true ∷ PushBool true ∷ PushBool true ∷ PushBool true ∷ Operate Eq ∷ Operate Eq ∷ Operate Eq ∷ Operate Eq ∷ Operate Eq ∷ Operate Eq ∷ Operate Eq ∷ Operate Eq ∷ Operate Eq ∷ Operate Eq ∷ Operate Eq ∷ Operate Eq ∷ Operate Eq ∷ Operate Eq ∷ Operate Eq ∷ Operate Eq ∷ Operate Eq ∷ Operate Eq ∷ Operate Eq ∷ Operate Eq ∷ Operate Eq ∷ Operate Eq ∷ Operate Eq ∷ Operate Eq ∷ Operate Eq ∷ Operate Eq ∷ Operate Eq ∷ Operate Eq ∷ Operate Eq ∷ Operate Eq ∷ Operate Eq ∷ Operate Eq ∷ Return ∷ []) }) ≡ Err (refused (Code Where) 32 rule.StackOverflow)
+thirty_three : judged (record base { selection = (PushBool true ∷ PushBool true ∷ PushBool true ∷ PushBool true ∷ PushBool true ∷ PushBool true ∷ PushBool true ∷ PushBool true ∷ PushBool true ∷ PushBool true ∷ PushBool true ∷ PushBool true ∷ PushBool true ∷ PushBool true ∷ PushBool true ∷ PushBool true ∷ PushBool true ∷ PushBool true ∷ PushBool true ∷ PushBool true ∷ PushBool true ∷ PushBool true ∷ PushBool true ∷ PushBool true ∷ PushBool true ∷ PushBool true ∷ PushBool true ∷ PushBool true ∷ PushBool true ∷ PushBool true ∷ PushBool true ∷ PushBool true ∷ PushBool true ∷ Compare Eq ∷ Compare Eq ∷ Compare Eq ∷ Compare Eq ∷ Compare Eq ∷ Compare Eq ∷ Compare Eq ∷ Compare Eq ∷ Compare Eq ∷ Compare Eq ∷ Compare Eq ∷ Compare Eq ∷ Compare Eq ∷ Compare Eq ∷ Compare Eq ∷ Compare Eq ∷ Compare Eq ∷ Compare Eq ∷ Compare Eq ∷ Compare Eq ∷ Compare Eq ∷ Compare Eq ∷ Compare Eq ∷ Compare Eq ∷ Compare Eq ∷ Compare Eq ∷ Compare Eq ∷ Compare Eq ∷ Compare Eq ∷ Compare Eq ∷ Compare Eq ∷ Compare Eq ∷ Return ∷ []) }) ≡ Err (refused (Code Where) 32 rule.StackOverflow)
 thirty_three = refl
 
-thirty_two : judged (record base { selection = (PushBool true ∷ PushBool true ∷ PushBool true ∷ PushBool true ∷ PushBool true ∷ PushBool true ∷ PushBool true ∷ PushBool true ∷ PushBool true ∷ PushBool true ∷ PushBool true ∷ PushBool true ∷ PushBool true ∷ PushBool true ∷ PushBool true ∷ PushBool true ∷ PushBool true ∷ PushBool true ∷ PushBool true ∷ PushBool true ∷ PushBool true ∷ PushBool true ∷ PushBool true ∷ PushBool true ∷ PushBool true ∷ PushBool true ∷ PushBool true ∷ PushBool true ∷ PushBool true ∷ PushBool true ∷ PushBool true ∷ PushBool true ∷ Operate Eq ∷ Operate Eq ∷ Operate Eq ∷ Operate Eq ∷ Operate Eq ∷ Operate Eq ∷ Operate Eq ∷ Operate Eq ∷ Operate Eq ∷ Operate Eq ∷ Operate Eq ∷ Operate Eq ∷ Operate Eq ∷ Operate Eq ∷ Operate Eq ∷ Operate Eq ∷ Operate Eq ∷ Operate Eq ∷ Operate Eq ∷ Operate Eq ∷ Operate Eq ∷ Operate Eq ∷ Operate Eq ∷ Operate Eq ∷ Operate Eq ∷ Operate Eq ∷ Operate Eq ∷ Operate Eq ∷ Operate Eq ∷ Operate Eq ∷ Operate Eq ∷ Return ∷ []) }) ≡ Ok (costs 67 4 6)
+thirty_two : judged (record base { selection = (PushBool true ∷ PushBool true ∷ PushBool true ∷ PushBool true ∷ PushBool true ∷ PushBool true ∷ PushBool true ∷ PushBool true ∷ PushBool true ∷ PushBool true ∷ PushBool true ∷ PushBool true ∷ PushBool true ∷ PushBool true ∷ PushBool true ∷ PushBool true ∷ PushBool true ∷ PushBool true ∷ PushBool true ∷ PushBool true ∷ PushBool true ∷ PushBool true ∷ PushBool true ∷ PushBool true ∷ PushBool true ∷ PushBool true ∷ PushBool true ∷ PushBool true ∷ PushBool true ∷ PushBool true ∷ PushBool true ∷ PushBool true ∷ Compare Eq ∷ Compare Eq ∷ Compare Eq ∷ Compare Eq ∷ Compare Eq ∷ Compare Eq ∷ Compare Eq ∷ Compare Eq ∷ Compare Eq ∷ Compare Eq ∷ Compare Eq ∷ Compare Eq ∷ Compare Eq ∷ Compare Eq ∷ Compare Eq ∷ Compare Eq ∷ Compare Eq ∷ Compare Eq ∷ Compare Eq ∷ Compare Eq ∷ Compare Eq ∷ Compare Eq ∷ Compare Eq ∷ Compare Eq ∷ Compare Eq ∷ Compare Eq ∷ Compare Eq ∷ Compare Eq ∷ Compare Eq ∷ Compare Eq ∷ Compare Eq ∷ Return ∷ []) }) ≡ Ok (costs 67 4 6)
 thirty_two = refl
 
 -- types
@@ -239,16 +240,16 @@ result_none = refl
 result_left : judged (record base { update = (Field 0 ∷ Fold 0 ∷ Key ∷ Return ∷ []) }) ≡ Err (refused (Code Update) 3 rule.Type)
 result_left = refl
 
-two_types : judged (record base { selection = (PushInt (pos 1) ∷ PushBool true ∷ Operate Eq ∷ Return ∷ []) }) ≡ Err (refused (Code Where) 2 rule.Type)
+two_types : judged (record base { selection = (PushInt (pos 1) ∷ PushBool true ∷ Compare Eq ∷ Return ∷ []) }) ≡ Err (refused (Code Where) 2 rule.Type)
 two_types = refl
 
-one_type : judged (record base { selection = (PushInt (pos 1) ∷ PushInt (pos 1) ∷ Operate Eq ∷ Return ∷ []) }) ≡ Ok (costs 7 4 6)
+one_type : judged (record base { selection = (PushInt (pos 1) ∷ PushInt (pos 1) ∷ Compare Eq ∷ Return ∷ []) }) ≡ Ok (costs 7 4 6)
 one_type = refl
 
-two_names : judged (record base { selection = (Key ∷ Field 0 ∷ Operate Eq ∷ Return ∷ []); fields = (Enum ((110 ∷ []) ∷ []) ∷ []); update = (PushInt (pos 1) ∷ Fold 0 ∷ Return ∷ []) }) ≡ Err (refused (Code Where) 2 rule.Type)
+two_names : judged (record base { selection = (Key ∷ Field 0 ∷ Compare Eq ∷ Return ∷ []); fields = (Enum ((110 ∷ []) ∷ []) ∷ []); update = (PushInt (pos 1) ∷ Fold 0 ∷ Return ∷ []) }) ≡ Err (refused (Code Where) 2 rule.Type)
 two_names = refl
 
-one_name : judged (record base { selection = (Key ∷ PushEnum 0 1 ∷ Operate Eq ∷ Return ∷ []) }) ≡ Ok (costs 7 4 6)
+one_name : judged (record base { selection = (Key ∷ PushEnum 0 1 ∷ Compare Eq ∷ Return ∷ []) }) ≡ Ok (costs 7 4 6)
 one_name = refl
 
 columns_in_order : judged (record base { columns = (column.Int ∷ column.Enum 0 ∷ []); fire = (Count ∷ Key ∷ PushBool true ∷ Return ∷ []) }) ≡ Ok (costs 5 4 6)
@@ -302,10 +303,10 @@ fold_in_fire = refl
 acc_in_update : judged (record base { update = (Acc 0 ∷ Fold 0 ∷ Return ∷ []) }) ≡ Err (refused (Code Update) 0 rule.NotHere)
 acc_in_update = refl
 
-sum_past : judged (record base { columns = (column.Int ∷ []); fire = (PushInt (pos 9223372036854774808) ∷ Count ∷ Operate Add ∷ PushBool true ∷ Return ∷ []) }) ≡ Err (refused (Code Fire) 2 rule.MayOverflow)
+sum_past : judged (record base { columns = (column.Int ∷ []); fire = (PushInt (pos 9223372036854774808) ∷ Count ∷ Compute Add ∷ PushBool true ∷ Return ∷ []) }) ≡ Err (refused (Code Fire) 2 rule.MayOverflow)
 sum_past = refl
 
-sum_just : judged (record base { columns = (column.Int ∷ []); fire = (PushInt (pos 9223372036854774807) ∷ Count ∷ Operate Add ∷ PushBool true ∷ Return ∷ []) }) ≡ Ok (costs 5 5 6)
+sum_just : judged (record base { columns = (column.Int ∷ []); fire = (PushInt (pos 9223372036854774807) ∷ Count ∷ Compute Add ∷ PushBool true ∷ Return ∷ []) }) ≡ Ok (costs 5 5 6)
 sum_just = refl
 
 where_before_update : judged (record base { selection = (Return ∷ []); update = (Return ∷ []) }) ≡ Err (refused (Code Where) 0 rule.Type)

@@ -2,12 +2,13 @@
 
 ghost use Rattle.std.specs.Prelude.{◌≡◌, [], ◌∷◌, option_map, slice_index_or};
 ghost use Rattle.std.specs.Option.{option_to_list};
+ghost use Rattle.wsm_interval.specs.Interval.{computed as interval_of, neg};
 ghost use Rattle.wsm_rules.specs.Labels as spec;
 
 use crate::state::State;
 use std::marker::Model;
-use wsm_interval::Interval;
-use wsm_program::{Instr, Operation};
+use wsm_interval::{Arithmetic, Interval};
+use wsm_program::Instr;
 use wsm_rules::Known;
 
 /// What is known of the number of records in a firing, and of the accumulators.
@@ -39,7 +40,9 @@ impl Ranges {
             Instr::Key => Some(Some(Known::NameOf(0))),
             Instr::Acc(accumulator) => Some(Some(self.accumulator(accumulator))),
             Instr::Count => Some(Some(Known::Number(self.count))),
-            Instr::Operate(operation) => Some(Some(computed(operation, state.stack())?)),
+            Instr::Compute(arithmetic) => Some(Some(computed(arithmetic, state.stack())?)),
+            Instr::Neg => Some(Some(negated(state.stack())?)),
+            Instr::Compare(_) | Instr::Not => Some(Some(Known::Truth)),
             Instr::Jump(_) | Instr::JumpIfFalse(_) | Instr::Test(_, _) => Some(None),
             Instr::Fold(_) | Instr::Return => Some(None),
         }
@@ -55,23 +58,22 @@ impl Ranges {
     }
 }
 
-// What an operation answers, or `None` where its arithmetic may leave 64 bits.
-fn computed(operation: Operation, stack: &[Known]) -> Option<Known>
-    ensures { option_map (λ k. k ∷ []) result ≡ spec.computed operation stack.now }
+// What arithmetic on the last two values gives, or `None` where it may leave 64 bits.
+fn computed(arithmetic: Arithmetic, stack: &[Known]) -> Option<Known>
+    ensures { option_map (λ k. k ∷ []) result ≡ spec.of_two (interval_of arithmetic) stack.now }
 {
-    let number = match (operation, stack) {
-        (Operation::Add, [Known::Number(y), Known::Number(x), ..]) => x.add(*y),
-        (Operation::Sub, [Known::Number(y), Known::Number(x), ..]) => x.sub(*y),
-        (Operation::Mul, [Known::Number(y), Known::Number(x), ..]) => x.mul(*y),
-        (Operation::Div, [Known::Number(y), Known::Number(x), ..]) => x.div(*y),
-        (Operation::Rem, [Known::Number(y), Known::Number(x), ..]) => x.rem(*y),
-        (Operation::Neg, [Known::Number(x), ..]) => x.neg(),
-        (Operation::Add | Operation::Sub | Operation::Mul, _) => None,
-        (Operation::Div | Operation::Rem | Operation::Neg, _) => None,
-        (Operation::Eq | Operation::Ne | Operation::Lt | Operation::Le, _) => {
-            return Some(Known::Truth);
-        }
-        (Operation::Gt | Operation::Ge | Operation::Not, _) => return Some(Known::Truth),
-    };
-    Some(Known::Number(number?))
+    match stack {
+        [Known::Number(y), Known::Number(x), ..] => Some(Known::Number(x.compute(arithmetic, *y)?)),
+        _ => None,
+    }
+}
+
+// The last value with its sign changed, or `None` where it may leave 64 bits.
+fn negated(stack: &[Known]) -> Option<Known>
+    ensures { option_map (λ k. k ∷ []) result ≡ spec.of_one neg stack.now }
+{
+    match stack {
+        [Known::Number(x), ..] => Some(Known::Number(x.neg()?)),
+        _ => None,
+    }
 }
