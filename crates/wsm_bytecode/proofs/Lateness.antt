@@ -15,8 +15,13 @@ tag_within (Fixed n) true h = omega arith
 tag_within (Sliding n d) true h = omega arith
 tag_within (Session n) true h = absurd (true≢false (sym h))
 
+pub timely_of_records : (s : Shape) → is_timely false s ≡ true
+timely_of_records (Fixed n) = refl
+timely_of_records (Sliding n d) = refl
+timely_of_records (Session n) = refl
+
 pub timely_within : (b : Bool) (s : Shape) → shape_tag s ≤ last_shape_tag b → is_timely b s ≡ true
-timely_within b (Fixed n) h = refl
-timely_within b (Sliding n d) h = refl
-timely_within false (Session n) h = refl
+timely_within false s h = timely_of_records s
+timely_within true (Fixed n) h = refl
+timely_within true (Sliding n d) h = refl
 timely_within true (Session n) h = absurd (omega arith)

@@ -20,7 +20,7 @@ use Rattle.wsm_bytecode.proofs.Numbers.{byte_again}
 use Rattle.wsm_bytecode.proofs.Parts.{tag_again, sources_again, windows_again, mode_again, triggers_again, form_again}
 use Rattle.wsm_bytecode.proofs.Taken.{IsBytes, bind_then, choose, ok_is, Took, Exact, byte_taken}
 use Rattle.wsm_bytecode.proofs.TakenParts.{tag_taken, sources_taken, TookWindows, windows_taken, mode_taken, triggers_bytes, triggers_taken, form_taken}
-use Rattle.wsm_bytecode.proofs.Lateness.{timely_within}
+use Rattle.wsm_bytecode.proofs.Lateness.{timely_of_records, timely_within}
 use Rattle.wsm_bytecode.proofs.Settings.{AreReadAgain, are_settings, settings_parts, are_settings_from, many_sources, count_of_many, few_sources}
 
 -- ---- what was spelled is read again
@@ -114,7 +114,7 @@ windows_taken_low tag bytes x t =
       parts = ap (λ n. byte n ++ bytes) (sym t.tagged ∙ zero_more (shape_tag x.0.0) ∙ ap (λ k. window_tag k + shape_tag x.0.0) l) ∙ ap (λ r. byte (window_tag x.0.1 + shape_tag x.0.0) ++ r) t.parts
           ∙ sym (append_assoc (byte (window_tag x.0.1 + shape_tag x.0.0)) (measures x.0.0) x.1);
       fits = t.fits;
-      good = and_from _ _ (subst (λ b. is_timely b x.0.0 ≡ true) l (timely_within false x.0.0 (omega (arith, t.tagged)))) t.good;
+      good = and_from _ _ (subst (λ b. is_timely b x.0.0 ≡ true) l (timely_of_records x.0.0)) t.good;
     }
 
 windows_taken_high : (tag : ℕ) (bytes : List ℕ) (x : (Shape × Bool) × List ℕ) → 3 ≤ tag → tag ≤ 4 → TookWindows true (tag - 3) bytes x → Took windows_bytes are_windows (byte tag ++ bytes) x

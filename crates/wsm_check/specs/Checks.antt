@@ -3,12 +3,11 @@ use Rattle.std.specs.Prelude.{◌≡◌, ℕ, suc, ◌*◌, Bool, true, ◌&&◌
 use Rattle.wsm_record.specs.declared.limits.TheConstants.{MAX_ACCUMULATORS, MAX_COLUMNS, MAX_FIELDS, MAX_NAMES, MAX_PANES, MAX_SECTION, MAX_STACK, MAX_STATED}
 use Rattle.wsm_record.specs.Name.{is_among}
 use Rattle.wsm_record.specs.Modes.{may_write}
-use Rattle.wsm_windows.specs.declared.window.Shape.{Shape}
-use Rattle.wsm_windows.specs.declared.window.Shape.TheVariants.{Fixed, Sliding, Session}
 use Rattle.wsm_windows.specs.Life.{live_bound}
-use Rattle.wsm_windows.specs.Limits.{is_shape, is_size, is_span, is_time}
+use Rattle.wsm_windows.specs.Limits.{is_shape, is_size}
 use Rattle.wsm_record.specs.Schema.{FieldType, DeclaredField, is_source_count, is_within}
 use Rattle.wsm_record.specs.Schema as field_types
+use Rattle.wsm_admission.specs.Clock.{is_limited, is_timely}
 use Rattle.wsm_query.specs.Tree.{Name, Budget, Query, Expr}
 use Rattle.wsm_check.specs.declared.refusal.CheckFault.{CheckFault}
 use Rattle.wsm_check.specs.declared.refusal.CheckFault.TheVariants.{Duplicate, Limit, Exceeds, StreamNeedsAccumulating, SessionLateness}
@@ -61,21 +60,12 @@ fields_refusal names (d ∷ ds) = or_else (field_refusal names d) (fields_refusa
 abbrev pub sources_refusal : List Name → Option CheckRefusal
 sources_refusal xs = first (unless (is_source_count (length xs)) Limit part.Sources ∷ unless (not (has_repeats xs)) Duplicate part.Sources ∷ [])
 
-abbrev pub clock_fits : Query → Bool
-clock_fits q = is_time q.start && (is_span q.skew && (is_span q.lateness && is_size q.records))
-
 abbrev pub is_cost : ℤ → Bool
 is_cost n = is_within (pos 1) (pos MAX_STATED) n
 
 abbrev pub budget_fits : Option Budget → Bool
 budget_fits None = true
 budget_fits (Some b) = is_cost b.per_record && (is_cost b.per_pane && is_within (pos 1) (pos MAX_PANES) b.held)
-
--- lateness isn't counted from the end of a session, which moves
-abbrev pub lateness_fits : Bool → Shape → Bool
-lateness_fits from_window (Fixed s) = true
-lateness_fits from_window (Sliding s d) = true
-lateness_fits from_window (Session g) = not from_window
 
 abbrev pub every_fits : Option ℤ → Bool
 every_fits None = true
@@ -112,7 +102,7 @@ sizes_refusal p =
     ∷ exceeds Update (counted (foldings_size p.foldings)) MAX_SECTION
     ∷ exceeds Fire (counted (firing_size p.having p.columns)) MAX_SECTION
     ∷ exceeds Stack (counted (need_of p)) MAX_STACK
-    ∷ exceeds Panes (counted (length p.schema.keys * live_bound p.shape p.skew p.lateness)) MAX_PANES
+    ∷ exceeds Panes (counted (length p.schema.keys * live_bound p.shape p.clock.skew p.clock.lateness)) MAX_PANES
     ∷ [])
 
 -- of what the query declares
@@ -123,10 +113,10 @@ declared_refusal q = first (names_refusal part.Keys q.keys ∷ fields_refusal []
 abbrev pub numbers_refusal : Query → Option CheckRefusal
 numbers_refusal q =
     first (
-    unless (clock_fits q) Limit part.Clock
+    unless (is_limited q.clock) Limit part.Clock
     ∷ unless (budget_fits q.budget) Limit part.Budget
     ∷ unless (is_shape q.shape) Limit part.Window
-    ∷ unless (lateness_fits q.from_window q.shape) SessionLateness part.Window
+    ∷ unless (is_timely q.clock.from_window q.shape) SessionLateness part.Window
     ∷ unless (every_fits q.early && every_fits q.late) Limit part.Trigger
     ∷ unless (may_write q.mode q.form) StreamNeedsAccumulating part.Emit
     ∷ [])

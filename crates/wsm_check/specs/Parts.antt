@@ -1,9 +1,10 @@
 -- What a checked query has.
-use Rattle.std.specs.Prelude.{ℕ, ◌+◌, Bool, List, [], ◌∷◌, map, ℤ, Option, option_map, Ok, Err}
+use Rattle.std.specs.Prelude.{ℕ, ◌+◌, List, [], ◌∷◌, map, ℤ, Option, option_map, Ok, Err}
 use Rattle.wsm_record.specs.declared.words.Kind.{Kind}
 use Rattle.wsm_record.specs.declared.words.Mode.{Mode}
 use Rattle.wsm_record.specs.declared.words.Form.{Form}
 use Rattle.wsm_windows.specs.declared.window.Shape.{Shape}
+use Rattle.wsm_admission.specs.declared.clock.Clock.{Clock}
 use Rattle.wsm_record.specs.Schema.{Declared}
 use Rattle.wsm_query.specs.Tree.{Budget, Query, Expr}
 use Rattle.wsm_record.specs.declared.words.CellType.{CellType}
@@ -20,11 +21,7 @@ pub record Folding : Type 0 where
 
 pub record Parts : Type 0 where
   pub schema : Declared
-  pub start : ℤ
-  pub skew : ℤ
-  pub lateness : ℤ
-  pub from_window : Bool
-  pub records : ℤ
+  pub clock : Clock
   pub budget : Option Budget
   pub shape : Shape
   pub mode : Mode
@@ -62,11 +59,7 @@ columns_from q a (e ∷ es) = resolved q a e ∷ columns_from q (a + aggregates 
 abbrev pub parts_of : Query → Parts
 parts_of q = record {
   schema = schema_of q;
-  start = q.start;
-  skew = q.skew;
-  lateness = q.lateness;
-  from_window = q.from_window;
-  records = q.records;
+  clock = q.clock;
   budget = q.budget;
   shape = q.shape;
   mode = q.mode;

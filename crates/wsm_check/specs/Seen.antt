@@ -29,11 +29,7 @@ seen_folding f = record { kind = f.kind; operand = seen_term f.operand }
 abbrev pub seen_parts : CodeParts → Parts
 seen_parts p = record {
   schema = p.schema;
-  start = p.start;
-  skew = p.skew;
-  lateness = p.lateness;
-  from_window = p.from_window;
-  records = p.records;
+  clock = p.clock;
   budget = option_map seen_budget p.budget;
   shape = p.shape;
   mode = p.mode;

@@ -37,11 +37,7 @@ base = record {
   keys = codes "a" ∷ codes "b" ∷ [];
   fields = field (codes "n") (field_types.Int (pos 0) (pos 100)) ∷ [];
   sources = [];
-  start = pos 0;
-  skew = pos 100;
-  lateness = pos 10;
-  from_window = false;
-  records = pos 1000;
+  clock = record { start = pos 0; skew = pos 100; lateness = pos 10; from_window = false; records = pos 1000 };
   budget = None;
   columns = Count ∷ Aggregate Sum n ∷ [];
   condition = None;
@@ -185,7 +181,7 @@ source_named_as_a_field : from (codes "a" ∷ codes "n" ∷ []) ≡ None
 source_named_as_a_field = refl
 
 -- the number of sources before their names, and both before the clock
-sources_before_the_clock : refusal (record base { sources = replicate 17 (codes "x"); records = pos 0 }) ≡ refused Limit part.Sources
+sources_before_the_clock : refusal (record base { sources = replicate 17 (codes "x"); clock = record base.clock { records = pos 0 } }) ≡ refused Limit part.Sources
 sources_before_the_clock = refl
 
 fields_before_sources : refusal (record base { fields = field (codes "n") (field_types.Int (pos 2) (pos 1)) ∷ []; sources = codes "x" ∷ [] }) ≡ refused Limit (part.Field 1)
@@ -193,7 +189,7 @@ fields_before_sources = refl
 
 -- numbers
 
-no_records : refusal (record base { records = pos 0 }) ≡ refused Limit part.Clock
+no_records : refusal (record base { clock = record base.clock { records = pos 0 } }) ≡ refused Limit part.Clock
 no_records = refl
 
 no_steps : refusal (record base { budget = Some (record { per_record = pos 0; per_pane = pos 1; held = pos 1 }) }) ≡ refused Limit part.Budget
@@ -206,22 +202,22 @@ period_of_size : refusal (record base { shape = Sliding (pos 60) (pos 60) }) ≡
 period_of_size = refl
 
 -- lateness from the end of a window that stands still, or that moves
-fixed_from_window : refusal (record base { from_window = true }) ≡ None
+fixed_from_window : refusal (record base { clock = record base.clock { from_window = true } }) ≡ None
 fixed_from_window = refl
 
-sliding_from_window : refusal (record base { from_window = true; shape = Sliding (pos 60) (pos 25) }) ≡ None
+sliding_from_window : refusal (record base { clock = record base.clock { from_window = true }; shape = Sliding (pos 60) (pos 25) }) ≡ None
 sliding_from_window = refl
 
-sessions_from_window : refusal (record base { from_window = true; shape = Session (pos 60) }) ≡ refused SessionLateness part.Window
+sessions_from_window : refusal (record base { clock = record base.clock { from_window = true }; shape = Session (pos 60) }) ≡ refused SessionLateness part.Window
 sessions_from_window = refl
 
 sessions_from_event : refusal (record base { shape = Session (pos 60) }) ≡ None
 sessions_from_event = refl
 
-gap_before_lateness : refusal (record base { from_window = true; shape = Session (pos 0) }) ≡ refused Limit part.Window
+gap_before_lateness : refusal (record base { clock = record base.clock { from_window = true }; shape = Session (pos 0) }) ≡ refused Limit part.Window
 gap_before_lateness = refl
 
-lateness_before_trigger : refusal (record base { from_window = true; shape = Session (pos 60); early = Some (pos 0) }) ≡ refused SessionLateness part.Window
+lateness_before_trigger : refusal (record base { clock = record base.clock { from_window = true }; shape = Session (pos 60); early = Some (pos 0) }) ≡ refused SessionLateness part.Window
 lateness_before_trigger = refl
 
 no_count : refusal (record base { early = Some (pos 0) }) ≡ refused Limit part.Trigger

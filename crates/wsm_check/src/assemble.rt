@@ -20,11 +20,7 @@ pub fn parts_of(query: &Query, schema: Schema, expressions: Expressions) -> Part
 {
     Parts {
         schema,
-        start: query.start,
-        skew: query.skew,
-        lateness: query.lateness,
-        from_window: query.from_window,
-        records: query.records,
+        clock: query.clock,
         budget: query.budget,
         shape: query.shape,
         mode: query.mode,

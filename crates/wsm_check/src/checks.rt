@@ -2,8 +2,9 @@
 
 ghost use Rattle.std.specs.Prelude.{◌≡◌, ◌≤◌, ◌⊎◌, Some, length, true, IfOk, IfErr, OnOk};
 ghost use Rattle.wsm_windows.specs.Limits.{is_shape};
+ghost use Rattle.wsm_admission.specs.Clock.{is_limited};
 ghost use Rattle.wsm_query.specs.Seen.{seen};
-ghost use Rattle.wsm_check.specs.Checks.{IsChecked, Judges, clock_fits, refusal, rest_refusal};
+ghost use Rattle.wsm_check.specs.Checks.{IsChecked, Judges, refusal, rest_refusal};
 ghost use Rattle.wsm_check.specs.Names.{schema_of};
 ghost use Rattle.wsm_check.specs.Resolved.{AreResolved};
 ghost use Rattle.wsm_check.specs.Spelt.{IsSpelt};
@@ -60,7 +61,7 @@ fn judge_rest(alloc: Global, schema: &Schema, query: &Query) -> Result<Expressio
     requires schema { schema.now ≡ schema_of (seen query.now) }
     ensures judged { Judges result (rest_refusal (seen query.now)) }
     ensures resolved { IfOk result (λ r. AreResolved (seen query.now) r) }
-    ensures clock { OnOk result (clock_fits (seen query.now) ≡ true) }
+    ensures clock { OnOk result (is_limited query.now.clock ≡ true) }
     ensures shape { OnOk result (is_shape query.now.shape ≡ true) }
 {
     judge_numbers(query)?;

@@ -5,7 +5,6 @@ ghost use Rattle.wsm_windows.specs.Life as life;
 ghost use Rattle.wsm_windows.specs.Limits.{is_shape, is_span};
 ghost use Rattle.wsm_check.specs.Checks.{Judges, exceeds, sizes_refusal};
 ghost use Rattle.wsm_check.specs.Seen.{seen_folding, seen_parts, seen_term};
-ghost use Rattle.wsm_check.specs.Sizes as rule;
 ghost use Rattle.wsm_check.specs.Sizes.{counted, ending_need, ending_size, firing_need, firing_size, foldings_need, foldings_size, need_of};
 
 use crate::judging::want;
@@ -32,8 +31,8 @@ pub fn within(limit: CodeLimit, counted: u64, allowed: u64) -> Result<(), CheckR
 #[tactic(auto, using(crate::proofs::ChecksInOrder::steps))]
 pub fn judge_sizes(parts: &Parts) -> Result<(), CheckRefusal>
     requires shape { is_shape parts.now.shape ≡ true }
-    requires skew { is_span parts.now.skew ≡ true }
-    requires lateness { is_span parts.now.lateness ≡ true }
+    requires skew { is_span parts.now.clock.skew ≡ true }
+    requires lateness { is_span parts.now.clock.lateness ≡ true }
     ensures { Judges result (sizes_refusal (seen_parts parts.now)) }
 {
     let selection = ending_size(&parts.condition);
@@ -118,10 +117,10 @@ fn stack_need(parts: &Parts) -> u64
 // The most panes that are live at once.
 fn panes_at_once(parts: &Parts) -> u64
     requires shape { is_shape parts.now.shape ≡ true }
-    requires skew { is_span parts.now.skew ≡ true }
-    requires lateness { is_span parts.now.lateness ≡ true }
-    ensures { let p = seen_parts parts.now in result ≡ counted (length p.schema.keys * life.live_bound p.shape p.skew p.lateness) }
+    requires skew { is_span parts.now.clock.skew ≡ true }
+    requires lateness { is_span parts.now.clock.lateness ≡ true }
+    ensures { let p = seen_parts parts.now in result ≡ counted (length p.schema.keys * life.live_bound p.shape p.clock.skew p.clock.lateness) }
 {
-    let live = live_bound(parts.shape, parts.skew, parts.lateness);
+    let live = live_bound(parts.shape, parts.clock.skew, parts.clock.lateness);
     (parts.schema.keys().len() as u64).saturating_mul(live)
 }

@@ -5,11 +5,12 @@ ghost use Rattle.std.specs.Prelude.{◌≡◌, ◌≤◌, [], length, map, true,
 ghost use Rattle.wsm_record.specs.Fields.{declared_field, declared_type, field_seen, type_seen};
 ghost use Rattle.wsm_record.specs.Schema.{are_fields_after, are_names_after, are_sources, is_field_after, is_field_type, is_name_list, is_schema};
 ghost use Rattle.wsm_windows.specs.Limits.{is_shape};
+ghost use Rattle.wsm_admission.specs.Clock.{is_limited};
 ghost use Rattle.wsm_query.specs.Seen.{seen};
 ghost use Rattle.wsm_check.specs.Names.{field_names, has_repeats, schema_of};
-ghost use Rattle.wsm_check.specs.Checks.{Judges, clock_fits, declared_refusal, field_refusal, fields_refusal, names_refusal, numbers_refusal, sources_refusal, ty_refusal, unless};
+ghost use Rattle.wsm_check.specs.Checks.{Judges, declared_refusal, field_refusal, fields_refusal, names_refusal, numbers_refusal, sources_refusal, ty_refusal, unless};
 
-use crate::limits::{budget_fits, clock_fits, every_fits, lateness_fits};
+use crate::limits::{budget_fits, every_fits};
 use crate::refusal::{CheckFault, CheckRefusal, Part};
 use std::alloc::Global;
 use wsm_query::Query;
@@ -126,14 +127,15 @@ fn judge_sources(alloc: Global, sources: &[Name]) -> Result<Names, CheckRefusal>
 #[tactic(auto, using(crate::proofs::ChecksInOrder::steps))]
 pub fn judge_numbers(query: &Query) -> Result<(), CheckRefusal>
     ensures judged { Judges result (numbers_refusal (seen query.now)) }
-    ensures clock { OnOk result (clock_fits (seen query.now) ≡ true) }
+    ensures clock { OnOk result (is_limited query.now.clock ≡ true) }
     ensures shape { OnOk result (is_shape query.now.shape ≡ true) }
 {
-    want(clock_fits(query), CheckFault::Limit, Part::Clock)?;
+    let clock_fits = query.clock.is_within_limits();
+    want(clock_fits, CheckFault::Limit, Part::Clock)?;
     want(budget_fits(query.budget), CheckFault::Limit, Part::Budget)?;
     let shape_fits = query.shape.is_within_limits();
     want(shape_fits, CheckFault::Limit, Part::Window)?;
-    let ends_stand = lateness_fits(query.from_window, query.shape);
+    let ends_stand = query.clock.is_timely(query.shape);
     want(ends_stand, CheckFault::SessionLateness, Part::Window)?;
     let counts_fit = every_fits(query.early) && every_fits(query.late);
     want(counts_fit, CheckFault::Limit, Part::Trigger)?;

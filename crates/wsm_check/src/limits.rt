@@ -2,24 +2,17 @@
 
 ghost use Rattle.std.specs.Prelude.{◌≡◌, option_map};
 ghost use Rattle.wsm_record.specs.Schema.{is_within};
-ghost use Rattle.wsm_query.specs.Seen.{seen, seen_budget};
-ghost use Rattle.wsm_check.specs.Checks.{budget_fits, clock_fits, every_fits, is_cost, lateness_fits};
+ghost use Rattle.wsm_query.specs.Seen.{seen_budget};
+ghost use Rattle.wsm_check.specs.Checks.{budget_fits, every_fits, is_cost};
 
-use wsm_query::{Budget, Query};
+use wsm_query::Budget;
 use wsm_record::limits::{MAX_PANES, MAX_STATED};
-use wsm_windows::{Shape, is_size, is_span, is_time};
+use wsm_windows::is_size;
 
 // What BUDGET may state, as numbers of a query, which have a sign.
 const MAX_COST: i64 = MAX_STATED as i64;
 
 const MAX_HELD: i64 = MAX_PANES as i64;
-
-/// Whether START, SKEW, LATENESS and RECORDS are in range.
-pub fn clock_fits(query: &Query) -> bool
-    ensures { result ≡ clock_fits (seen query.now) }
-{
-    is_time(query.start) && is_span(query.skew) && is_span(query.lateness) && is_size(query.records)
-}
 
 /// Whether the numbers of BUDGET are in range.
 pub fn budget_fits(budget: Option<Budget>) -> bool
@@ -30,17 +23,6 @@ pub fn budget_fits(budget: Option<Budget>) -> bool
         Some(b) => {
             is_cost(b.per_record) && is_cost(b.per_pane) && is_within(1, MAX_HELD, b.held)
         }
-    }
-}
-
-/// Whether lateness may be counted so with windows of this shape: not from the end of a session,
-/// which moves.
-pub fn lateness_fits(from_window: bool, shape: Shape) -> bool
-    ensures { result ≡ lateness_fits from_window shape }
-{
-    match shape {
-        Shape::Fixed(_) | Shape::Sliding(_, _) => true,
-        Shape::Session(_) => !from_window,
     }
 }
 

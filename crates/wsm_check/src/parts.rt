@@ -1,6 +1,7 @@
 //! What a checked query has.
 
 use crate::term::Term;
+use wsm_admission::Clock;
 use wsm_query::Budget;
 use wsm_record::{CellType, Form, Kind, Mode, Schema};
 use wsm_windows::Shape;
@@ -20,17 +21,8 @@ pub struct Folding {
 pub struct Parts {
     /// The keys, the fields and the sources of watermarks.
     pub schema: Schema,
-    /// Where the watermark starts, in event time.
-    pub start: i64,
-    /// How far ahead of the watermark a record may be, in event time.
-    pub skew: i64,
-    /// How far behind the watermark a record, or the end of its last window, may be, in event time.
-    pub lateness: i64,
-    /// Whether lateness is counted from the ends of windows, and not from a record's own time. It
-    /// isn't with sessions.
-    pub from_window: bool,
-    /// How many records are admitted.
-    pub records: i64,
+    /// By which records and watermarks are admitted. Lateness isn't counted from the ends of sessions.
+    pub clock: Clock,
     /// What BUDGET states; without it the program states its need.
     pub budget: Option<Budget>,
     /// How records are put into windows.

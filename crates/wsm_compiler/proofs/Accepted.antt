@@ -91,7 +91,7 @@ module _ (q : Query) (b : Costs) where
   fit_both xs ys h l = list_all-append (acc_fits q b) xs ys ∙ and_from (accs_fit q b xs) (accs_fit q b ys) h l
 
   accs_of_fit : (ds : List DeclaredField) (e : Expr) → fits (range_on q ds e) ≡ true → accs_fit q b (accumulators_of e) ≡ true
-  accs_of_fit ds (Aggregate kind e) h = and_from (fits (of_aggregate q.records kind (range q e))) true h refl
+  accs_of_fit ds (Aggregate kind e) h = and_from (fits (of_aggregate q.clock.records kind (range q e))) true h refl
   accs_of_fit ds (If c x y) h =
       let dx = where_true (test_of q 0 c) ds in
       let dy = where_false (test_of q 0 c) ds in

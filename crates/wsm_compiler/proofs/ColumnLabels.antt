@@ -109,6 +109,6 @@ labels_are_ranges q checked fit =
     let columns = and_parts (columns_fit q q.columns) (condition_fits q q.having) (sym (fired_fit q b) ∙ parts.1) in
     let accs = accs_of_all q b (fired q) parts.1 in
     let l = (sizes_are_lengths q).2 in
-    columns_labelled q b (entry p) (firing q b) (reads_fire q b (known_accumulators q.records 0 p.header.kinds (update_visits p))) [] (aggregates_of q.columns) 0 0 q.columns [] refl f.columns columns.0
+    columns_labelled q b (entry p) (firing q b) (reads_fire q b (known_accumulators q.clock.records 0 p.header.kinds (update_visits p))) [] (aggregates_of q.columns) 0 0 q.columns [] refl f.columns columns.0
     (subst (λ xs. Accs (firing q b) q 0 xs) (accs_are q b) (accs_known q b f.accs accs (all_values q b f.accs f.update_need accs))) (omega (arith, f.fire_need)) (omega (arith, l)) refl refl
     (record { long = refl; label = refl; quiet = λ d u w. refl })

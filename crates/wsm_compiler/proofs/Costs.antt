@@ -149,15 +149,15 @@ needed_fits q p keys =
     let windows = windows_at_most q.shape p.shape in
     let product = product_at_most (windows_of_a_record q.shape) (longest_foldings parts.foldings) windows (omega (arith, u, p.code.update)) in
     let joins = joins_at_most q.shape (length parts.foldings) in
-    let i = and_parts (is_time q.start) (is_span q.skew && (is_span q.lateness && is_size q.records)) p.clock in
-    let j = and_parts (is_span q.skew) (is_span q.lateness && is_size q.records) i.1 in
-    let k = and_parts (is_span q.lateness) (is_size q.records) j.1 in
-    let live = live_at_least q.shape q.skew q.lateness p.shape j.0 k.0 in
+    let i = and_parts (is_time q.clock.start) (is_span q.clock.skew && (is_span q.clock.lateness && is_size q.clock.records)) p.clock in
+    let j = and_parts (is_span q.clock.skew) (is_span q.clock.lateness && is_size q.clock.records) i.1 in
+    let k = and_parts (is_span q.clock.lateness) (is_size q.clock.records) j.1 in
+    let live = live_at_least q.shape q.clock.skew q.clock.lateness p.shape j.0 k.0 in
     and_from (is_stated need.per_record) (is_stated need.per_pane && is_between 1 100000 need.held)
     (between 1 1000000000000000000 need.per_record (omega (arith, w.0)) (omega (arith, w.1, product, joins, few, p.code.selection, p.code.accs)))
     (and_from (is_stated need.per_pane) (is_between 1 100000 need.held)
     (between 1 1000000000000000000 need.per_pane (omega (arith, f.0)) (omega (arith, f.1, p.code.fire)))
-    (between 1 100000 need.held (product_at_least (length q.keys) (live_bound q.shape q.skew q.lateness) keys live) p.code.held))
+    (between 1 100000 need.held (product_at_least (length q.keys) (live_bound q.shape q.clock.skew q.clock.lateness) keys live) p.code.held))
 
 cost_is : (lo hi : ℕ) (n : ℤ) → is_within (pos lo) (pos hi) n ≡ true → is_between lo hi (unsigned_abs n) ≡ true
 cost_is lo hi (pos n) h = let p = and_parts (int_le (pos lo) (pos n)) (int_le (pos n) (pos hi)) h in and_from (nat_le lo n) (nat_le n hi) (same lo n p.0) (same n hi p.1)

@@ -9,7 +9,6 @@ use Rattle.wsm_record.specs.Name.{is_among}
 use Rattle.wsm_interval.specs.declared.interval.Interval.{Interval}
 use Rattle.wsm_interval.specs.Interval.{interval}
 use Rattle.wsm_program.specs.declared.instr.Instr.TheVariants as instr
-use Rattle.wsm_program.specs.declared.operation.Operation.TheVariants as operation
 use Rattle.wsm_query.specs.declared.expr.Op.{Op}
 use Rattle.wsm_query.specs.declared.expr.Op.TheVariants.{Add, Sub, Mul, Div, Rem, Eq, Ne, Lt, Le, Gt, Ge}
 use Rattle.wsm_record.specs.Schema.{FieldType, DeclaredField, is_i64}
@@ -203,7 +202,7 @@ suits_on c q around ds n (KeyName x) t h = suits_at NoNumber (types.Enum 0) t (o
 suits_on c q around ds n Count t h = suits_at (range q Count) types.Int t (ok_is _ t (entered_is around _ t h).1) refl
 suits_on c q around ds n (Aggregate kind e) t h =
     let u = unary_is q InAggregate e (kind_type kind) t (entered_is around _ t h).1 in
-    suits_at (range_on q ds (Aggregate kind e)) (kind_type kind) t u.1 (aggregate_suits q.records kind (range q e) (suits_on c q InAggregate q.fields (as_declared q) e (kind_type kind) u.0))
+    suits_at (range_on q ds (Aggregate kind e)) (kind_type kind) t u.1 (aggregate_suits q.clock.records kind (range q e) (suits_on c q InAggregate q.fields (as_declared q) e (kind_type kind) u.0))
 suits_on c q around ds n (If b x y) t h =
     let p = if_types q around b x y t h in
     (chosen_is t (range_on q ds b) (range_on q (where_true (test_of q 0 b) ds) x) (range_on q (where_false (test_of q 0 b) ds) y) (suits_on c q around ds n b types.Bool p.test_is) (suits_on c q around _ (true_narrows (test_of q 0 b) n) x t p.first_is) (suits_on c q around _ (false_narrows (test_of q 0 b) n) y t p.second_is)).1
@@ -277,11 +276,11 @@ tested_int q around a e u t h =
 -- fields may be read, and what is read of panes is known by its range
 pub record Reads (c : Setting) (q : Query) (around : Around) : Type 0 where
   pub field : (x : Name) (t : CellType) → field_ty q around x ≡ Ok t → may_stand c.section (instr.Field (field_place q.fields x)) ≡ true
-  pub count : around ≡ InColumn → of_instr c instr.Count [] ≡ Some (known.Number (interval (pos 1) q.records))
+  pub count : around ≡ InColumn → of_instr c instr.Count [] ≡ Some (known.Number (interval (pos 1) q.clock.records))
 
 -- and so is each of some accumulators, from the a-th on
 abbrev pub Accs : Setting → Query → ℕ → List Acc → Type 0
-Accs c q a accs = (j : ℕ) (acc : Acc) → slice_get accs j ≡ Some acc → of_instr c (instr.Acc (a + j)) [] ≡ known_of (kind_type acc.kind) (of_aggregate q.records acc.kind (range q acc.operand))
+Accs c q a accs = (j : ℕ) (acc : Acc) → slice_get accs j ≡ Some acc → of_instr c (instr.Acc (a + j)) [] ≡ known_of (kind_type acc.kind) (of_aggregate q.clock.records acc.kind (range q acc.operand))
 
 pub get_left : {A : Type 0} (xs ys : List A) (j : ℕ) (x : A) → slice_get xs j ≡ Some x → slice_get (xs ++ ys) j ≡ Some x
 get_left [] ys j x e = let tag : Option _ → Bool = λ o. elim o [ None ↦ false | Some x ↦ true ] in no (ap tag e)
@@ -361,10 +360,10 @@ found_on c q around reads ds n a (If b x y) t h accs =
 found_on c q around reads ds n a (Brackets e) t h accs = found_on c q around reads ds n a e t h accs
 found_on c q around reads ds n a (Minus e) t h accs =
     let u = unary_is q around e types.Int t h in
-    at_type _ (range_on q ds (Minus e)) types.Int t u.1 (ap (λ o. and_then (λ x. of_instr c (instr.Operate operation.Neg) (x ∷ [])) o) (found_on c q around reads ds n a e types.Int u.0 accs) ∙ minus_found c (range_on q ds e) (suits_on c q around ds n e types.Int u.0))
+    at_type _ (range_on q ds (Minus e)) types.Int t u.1 (ap (λ o. and_then (λ x. of_instr c instr.Neg (x ∷ [])) o) (found_on c q around reads ds n a e types.Int u.0 accs) ∙ minus_found c (range_on q ds e) (suits_on c q around ds n e types.Int u.0))
 found_on c q around reads ds n a (Not e) t h accs =
     let u = unary_is q around e types.Bool t h in
-    at_type _ (range_on q ds (Not e)) types.Bool t u.1 (ap (λ o. and_then (λ x. of_instr c (instr.Operate operation.Not) (x ∷ [])) o) (found_on c q around reads ds n a e types.Bool u.0 accs) ∙ not_found c (range_on q ds e) (suits_on c q around ds n e types.Bool u.0))
+    at_type _ (range_on q ds (Not e)) types.Bool t u.1 (ap (λ o. and_then (λ x. of_instr c instr.Not (x ∷ [])) o) (found_on c q around reads ds n a e types.Bool u.0 accs) ∙ not_found c (range_on q ds e) (suits_on c q around ds n e types.Bool u.0))
 found_on c q around reads ds n a (Binary op x y) t h accs =
     let p = two_types q around x y (op_ty op) t h in
     let o = op_is op p.left p.right t p.both in

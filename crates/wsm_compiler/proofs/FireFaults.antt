@@ -66,17 +66,17 @@ flat_option (Some e) = append-nil (accumulators_of e)
 
 module _ (q : Query) (b : Costs) where
   abbrev known_from : ℕ → List Acc → List Visit → List Known
-  known_from n accs vs = known_accumulators q.records n (kinds_of q accs) vs
+  known_from n accs vs = known_accumulators q.clock.records n (kinds_of q accs) vs
 
   -- the j-th of the accumulators from the n-th on
   known_at : (n : ℕ) (accs : List Acc) (vs : List Visit) (j : ℕ) (acc : Acc) → AccsTyped q b accs → accs_fit q b accs ≡ true → ValuesAt q b n accs vs → slice_get accs j ≡ Some acc →
-      Some (slice_index_or (known_from n accs vs) j Truth) ≡ known_of (kind_type acc.kind) (of_aggregate q.records acc.kind (range q acc.operand))
+      Some (slice_index_or (known_from n accs vs) j Truth) ≡ known_of (kind_type acc.kind) (of_aggregate q.clock.records acc.kind (range q acc.operand))
   known_at n [] vs j acc h fit values e = none≢some e
   known_at n (x ∷ accs) vs zero acc h fit values e =
       let f = and_parts (acc_fits q b x) (accs_fit q b accs) fit in
-      ap (λ o. Some (known_range (and_then (accumulated q.records x.kind) o))) values.0
-      ∙ aggregate_known q.records x.kind (range q x.operand) (range_suits (updating q b) q InAggregate x.operand (kind_type x.kind) h.0) f.0
-      ∙ ap (λ z. known_of (kind_type z.kind) (of_aggregate q.records z.kind (range q z.operand))) (same_Some x acc e)
+      ap (λ o. Some (known_range (and_then (accumulated q.clock.records x.kind) o))) values.0
+      ∙ aggregate_known q.clock.records x.kind (range q x.operand) (range_suits (updating q b) q InAggregate x.operand (kind_type x.kind) h.0) f.0
+      ∙ ap (λ z. known_of (kind_type z.kind) (of_aggregate q.clock.records z.kind (range q z.operand))) (same_Some x acc e)
   known_at n (x ∷ accs) vs (suc j) acc h fit values e = known_at (suc n) accs vs j acc h.1 (and_parts (acc_fits q b x) (accs_fit q b accs) fit).1 values.1 e
 
   abbrev pub firing : Setting
@@ -102,6 +102,6 @@ module _ (q : Query) (b : Costs) where
       let fault = not (columns_fit q q.columns && condition_fits q q.having) in
       let l = (sizes_are_lengths q).2 in
       whole_section p Fire r fault (omega (arith, l, some_columns_size q (aggregates_of q.columns) 0 q.columns))
-      (columns_ends (entry p) firing q (reads_fire q b (known_accumulators q.records 0 p.header.kinds vs)) (aggregates_of q.columns) 0 0 q.columns (entry p) [] (omega arith) refl h hh
+      (columns_ends (entry p) firing q (reads_fire q b (known_accumulators q.clock.records 0 p.header.kinds vs)) (aggregates_of q.columns) 0 0 q.columns (entry p) [] (omega arith) refl h hh
       (subst (λ accs. Accs firing q 0 accs) accs_are (accs_known ha fit (all_values q b ha low fit))) (omega (arith, room)) (omega (arith, l)) refl
       (ap (λ zs. Truth ∷ zs) (sym (append-nil (reverse (map column_known (map (column_type q) q.columns)))))) refl)

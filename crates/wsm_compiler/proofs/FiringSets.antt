@@ -99,7 +99,7 @@ module _ (m : Meant) where
   contents_are : (past : List Event) (p : Place) → AreOf p (contents m past p)
   contents_are past p = record {
     same = keys_there p (selected m past);
-    few = at_most (length (contents m past p)) (length (selected m past)) (admitted_count m.clock m.shape m.declared past) (unsigned_abs m.clock.records) (length-filter (is_there m p) (selected m past)) (selected_count m past) (admitted_count-le m.clock m.declared past);
+    few = at_most (length (contents m past p)) (length (selected m past)) (admitted_count m.clock m.shape m.declared past) (unsigned_abs m.clock.records) (length-filter (is_there m p) (selected m past)) (selected_count m past) (admitted_count-le m.clock m.shape m.declared past);
     each = filter-all Fits (is_there m p) (selected m past) (all_fit past);
   }
 

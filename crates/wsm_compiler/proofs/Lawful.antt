@@ -1,13 +1,11 @@
 -- What reading program bytes asks holds of the program of a checked query.
-use Rattle.std.proofs.Common.{◌≡◌, ℕ, suc, ◌+◌, ◌≤◌, ◌<◌, Bool, true, false, ◌&&◌, not, List, [], ◌∷◌, ◌++◌, length, map, ℤ, Option, Some, None, refl, sym, ap, subst, ◌∙◌, arith, length-append}
+use Rattle.std.proofs.Common.{◌≡◌, ℕ, suc, ◌+◌, ◌≤◌, ◌<◌, true, ◌&&◌, not, List, [], ◌∷◌, ◌++◌, length, ℤ, Option, Some, None, refl, sym, ap, ◌∙◌, arith, length-append}
 use Rattle.std.proofs.lemmas.List.Folds.{list_all-append}
-use Rattle.std.specs.Prelude.{pos, negsuc, int_le, nat_eq, nat_le, nat_lt}
+use Rattle.std.specs.Prelude.{pos, negsuc, int_le, nat_le, nat_lt}
 use Rattle.std.proofs.lemmas.List.{length-map}
 use Rattle.std.specs.List.{list_all, flat_map}
 use Rattle.std.proofs.lemmas.Bool.{and_from, ltb-true, and_parts, leb-true, le-leb}
 use Rattle.wsm_record.specs.Name.{is_name, is_among, is_between}
-use Rattle.wsm_windows.specs.declared.window.Shape.{Shape}
-use Rattle.wsm_windows.specs.declared.window.Shape.TheVariants.{Fixed, Sliding, Session}
 use Rattle.wsm_program.specs.declared.instr.Instr.{Instr}
 use Rattle.wsm_program.specs.declared.program.Costs.{Costs}
 use Rattle.wsm_program.specs.Program.{Header, is_span, is_shape, is_column, is_timely, is_limited, is_clock, is_firing, is_row, is_budget, is_header, is_instr, is_section, is_program}
@@ -22,7 +20,7 @@ use Rattle.wsm_check.specs.Names.{has_repeats}
 use Rattle.wsm_check.specs.Types.{typed}
 use Rattle.wsm_check.specs.declared.types.Around.TheVariants.{InWhere, InColumn}
 use Rattle.wsm_check.specs.Aggregates.{Acc, accumulators, accumulators_of, in_option, fired}
-use Rattle.wsm_check.specs.Checks.{unless, first, ty_refusal, field_refusal, fields_refusal, lateness_fits, every_fits, typed_refusal, columns_refusal}
+use Rattle.wsm_check.specs.Checks.{unless, first, ty_refusal, field_refusal, fields_refusal, every_fits, typed_refusal, columns_refusal}
 use Rattle.wsm_compiler.specs.Code.{where_section, update_section, fire_section}
 use Rattle.wsm_check.specs.Spelt.{numbers_fit, IsSpelt}
 use Rattle.wsm_compiler.specs.Lawful.{IsLawful}
@@ -102,12 +100,6 @@ every_is (Some (pos n)) h = let p = and_parts (int_le (pos 1) (pos n)) (int_le (
     from : (n : ℕ) → int_le (pos 0) (pos n) ≡ true
     from n = grind arith
 every_is (Some (negsuc n)) h = no h
-
--- lateness isn't counted from the end of a session
-timely_is : (from_window : Bool) (shape : Shape) → lateness_fits from_window shape ≡ true → is_timely from_window shape ≡ true
-timely_is from_window (Fixed size) h = refl
-timely_is from_window (Sliding size period) h = refl
-timely_is from_window (Session gap) h = h
 
 -- ---- columns and accumulators
 
@@ -205,7 +197,7 @@ module _ (q : Query) (passes : Passed q) (spelt : IsSpelt q) (b : Costs) (f : Fi
       (and_from (is_span (every q.late)) (may_write q.mode q.form) (every_is q.late t.1) passes.emit))
 
   clock_is : is_clock head ≡ true
-  clock_is = and_from (is_limited head.clock) (is_timely head.clock.from_window head.shape) passes.clock (timely_is q.from_window q.shape passes.lateness)
+  clock_is = and_from (is_limited head.clock) (is_timely head.clock.from_window head.shape) passes.clock passes.lateness
 
   row_is : is_row head ≡ true
   row_is =

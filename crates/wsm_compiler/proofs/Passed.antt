@@ -4,6 +4,7 @@ use Rattle.std.specs.Prelude.{nat_le}
 use Rattle.wsm_record.specs.Modes.{may_write}
 use Rattle.wsm_windows.specs.Life.{live_bound}
 use Rattle.wsm_windows.specs.Limits.{is_shape}
+use Rattle.wsm_admission.specs.Clock.{is_limited, is_timely}
 use Rattle.wsm_query.specs.Tree.{Query}
 use Rattle.wsm_check.specs.declared.refusal.CheckFault.{CheckFault}
 use Rattle.wsm_check.specs.declared.refusal.CheckFault.TheVariants.{Limit, Exceeds, SessionLateness, StreamNeedsAccumulating}
@@ -15,7 +16,7 @@ use Rattle.wsm_check.specs.declared.refusal.CodeLimit.TheVariants.{Accumulators,
 use Rattle.wsm_check.specs.Parts.{parts_of}
 use Rattle.wsm_check.specs.Sizes.{where_size, update_size, fire_size, stack_need, counted}
 use Rattle.wsm_check.specs.declared.types.Around.TheVariants.{InWhere, InColumn}
-use Rattle.wsm_check.specs.Checks.{unless, first, names_refusal, fields_refusal, sources_refusal, clock_fits, budget_fits, lateness_fits, every_fits, condition_refusal, columns_refusal, exceeds, foldings_refusal, sizes_refusal, declared_refusal, numbers_refusal, expressions_refusal, rest_refusal, IsChecked}
+use Rattle.wsm_check.specs.Checks.{unless, first, names_refusal, fields_refusal, sources_refusal, budget_fits, every_fits, condition_refusal, columns_refusal, exceeds, foldings_refusal, sizes_refusal, declared_refusal, numbers_refusal, expressions_refusal, rest_refusal, IsChecked}
 use Rattle.wsm_machine.proofs.FittingStacks.{no}
 use Rattle.wsm_check.proofs.ChecksInOrder.{passed_both}
 
@@ -41,11 +42,11 @@ pub record CodeFits (q : Query) : Type 0 where
   pub update : update_size q ≤ 1000
   pub fire : fire_size q ≤ 1000
   pub stack : stack_need q ≤ 32
-  pub held : length q.keys * live_bound q.shape q.skew q.lateness ≤ 100000
+  pub held : length q.keys * live_bound q.shape q.clock.skew q.clock.lateness ≤ 100000
 
 code_fits_in : (q : Query) → foldings_refusal (parts_of q) ≡ None → sizes_refusal (parts_of q) ≡ None → CodeFits q
 code_fits_in q few fits =
-    let panes = length q.keys * live_bound q.shape q.skew q.lateness in
+    let panes = length q.keys * live_bound q.shape q.clock.skew q.clock.lateness in
     let h = exceeds Panes (counted panes) 100000 in
     let s = exceeds Stack (counted (stack_need q)) 32 in
     let f = exceeds Fire (counted (fire_size q)) 1000 in
@@ -68,10 +69,10 @@ pub record Passed (q : Query) : Type 0 where
   pub keys : names_refusal part.Keys q.keys ≡ None
   pub fields : fields_refusal [] q.fields ≡ None
   pub sources : sources_refusal q.sources ≡ None
-  pub clock : clock_fits q ≡ true
+  pub clock : is_limited q.clock ≡ true
   pub budget : budget_fits q.budget ≡ true
   pub shape : is_shape q.shape ≡ true
-  pub lateness : lateness_fits q.from_window q.shape ≡ true
+  pub lateness : is_timely q.clock.from_window q.shape ≡ true
   pub triggers : (every_fits q.early && every_fits q.late) ≡ true
   pub emit : may_write q.mode q.form ≡ true
   pub condition : condition_refusal q InWhere part.Where q.condition ≡ None
@@ -93,10 +94,10 @@ passed q h =
     let d1 = passed_both keys (first (fields ∷ sources ∷ [])) g1.0 in
     let d2 = passed_both fields (first (sources ∷ [])) d1.1 in
     let d3 = passed_both sources None d2.1 in
-    let clock = unless (clock_fits q) Limit part.Clock in
+    let clock = unless (is_limited q.clock) Limit part.Clock in
     let budget = unless (budget_fits q.budget) Limit part.Budget in
     let shape = unless (is_shape q.shape) Limit part.Window in
-    let lateness = unless (lateness_fits q.from_window q.shape) SessionLateness part.Window in
+    let lateness = unless (is_timely q.clock.from_window q.shape) SessionLateness part.Window in
     let triggers = unless (every_fits q.early && every_fits q.late) Limit part.Trigger in
     let emit = unless (may_write q.mode q.form) StreamNeedsAccumulating part.Emit in
     let n1 = passed_both clock (first (budget ∷ shape ∷ lateness ∷ triggers ∷ emit ∷ [])) g2.0 in
@@ -115,10 +116,10 @@ passed q h =
       keys = d1.0;
       fields = d2.0;
       sources = d3.0;
-      clock = unless_none (clock_fits q) Limit part.Clock n1.0;
+      clock = unless_none (is_limited q.clock) Limit part.Clock n1.0;
       budget = unless_none (budget_fits q.budget) Limit part.Budget n2.0;
       shape = unless_none (is_shape q.shape) Limit part.Window n3.0;
-      lateness = unless_none (lateness_fits q.from_window q.shape) SessionLateness part.Window n4.0;
+      lateness = unless_none (is_timely q.clock.from_window q.shape) SessionLateness part.Window n4.0;
       triggers = unless_none (every_fits q.early && every_fits q.late) Limit part.Trigger n5.0;
       emit = unless_none (may_write q.mode q.form) StreamNeedsAccumulating part.Emit n6.0;
       condition = e1.0;

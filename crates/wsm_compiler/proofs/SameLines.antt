@@ -200,14 +200,14 @@ all_in_range q key (d ∷ ds) same fits =
 pane_is : (q : Query) → IsAccepted q → (key : ℕ) (ds : List Datum) → IsFiringSet (query_of (program_of q)) key ds → IsPane q key (map (λ d. d.values) ds)
 pane_is q a key ds h =
     let clock = (passed q a.checked).clock in
-    let c1 = and_parts (is_time q.start) (is_span q.skew && (is_span q.lateness && is_size q.records)) clock in
-    let c2 = and_parts (is_span q.skew) (is_span q.lateness && is_size q.records) c1.1 in
-    let c3 = and_parts (is_span q.lateness) (is_size q.records) c2.1 in
+    let c1 = and_parts (is_time q.clock.start) (is_span q.clock.skew && (is_span q.clock.lateness && is_size q.clock.records)) clock in
+    let c2 = and_parts (is_span q.clock.skew) (is_span q.clock.lateness && is_size q.clock.records) c1.1 in
+    let c3 = and_parts (is_span q.clock.lateness) (is_size q.clock.records) c2.1 in
     let n = length-values ds in
-    let few : length (map (λ (d : Datum). d.values) ds) ≤ unsigned_abs q.records = subst (λ l. l ≤ unsigned_abs q.records) (sym n) h.few in
+    let few : length (map (λ (d : Datum). d.values) ds) ≤ unsigned_abs q.clock.records = subst (λ l. l ≤ unsigned_abs q.clock.records) (sym n) h.few in
     record {
       some = subst (λ l. 1 ≤ l) (sym n) h.some;
-      few = few_of (length (map (λ (d : Datum). d.values) ds)) q.records c3.1 few;
+      few = few_of (length (map (λ (d : Datum). d.values) ds)) q.clock.records c3.1 few;
       each = all_in_range q key ds h.same h.each;
     }
 

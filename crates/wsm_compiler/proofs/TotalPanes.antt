@@ -167,8 +167,8 @@ module _ (q : Query) (a : IsAccepted q) (key : ℕ) where
 
     fit : pane_fits q d ≡ true
     fit =
-        let b = and_parts (nat_lt key (length q.keys)) (holds (interval (pos 1) q.records) (pos (length records)) && accs_in p 0 p.header.kinds held) ranged in
-        subst (λ ks. are_of_kinds ks held ≡ true) (kinds_are q (accumulators q)) (accs_types p 0 p.header.kinds held (and_parts (holds (interval (pos 1) q.records) (pos (length records))) (accs_in p 0 p.header.kinds held) b.1).1)
+        let b = and_parts (nat_lt key (length q.keys)) (holds (interval (pos 1) q.clock.records) (pos (length records)) && accs_in p 0 p.header.kinds held) ranged in
+        subst (λ ks. are_of_kinds ks held ≡ true) (kinds_are q (accumulators q)) (accs_types p 0 p.header.kinds held (and_parts (holds (interval (pos 1) q.clock.records) (pos (length records))) (accs_in p 0 p.header.kinds held) b.1).1)
 
     abbrev ran : Ran
     ran = fire_run p key (length records) held

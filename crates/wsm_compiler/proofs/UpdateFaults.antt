@@ -86,18 +86,18 @@ module _ (q : Query) (b : Costs) where
   behind_fold a s = record s { folded = slice_set s.folded a true }
 
   pub fold_one : (e : State) (k a : ℕ) (x : Known) (s : State) (kind : Kind) → kind_of updating.kinds a ≡ kind → slice_index_or s.folded a false ≡ false → length s.stack < 32 → suc k < updating.n →
-      Labelled e updating k (Fold a ∷ []) (with_known x s) (if_takes (takes q.records kind x) (behind_fold a s))
+      Labelled e updating k (Fold a ∷ []) (with_known x s) (if_takes (takes q.clock.records kind x) (behind_fold a s))
   fold_one e k a x s kind is once room more =
-      one e updating k (Fold a) (with_known x s) (if_takes (takes q.records kind x) (behind_fold a s)) refl (λ p q s. refl)
-      (tested updating k (Fold a) (with_known x s) false false (not (has_type (kind_type kind) x)) false false false (sum_leaves q.records kind x) false false false false
-      refl (has_one (length s.stack)) (ap (λ z. not (has_type (kind_type z) x)) is) once refl refl (ap (λ z. sum_leaves q.records z x) is) (room_at_test (length s.stack) room) refl refl (not_last true k updating.n more)
-      ∙ fold_verdict (has_type (kind_type kind) x) (sum_leaves q.records kind x) (behind_fold a s))
-      (λ t h. taken_is (takes q.records kind x) (behind_fold a s) t h)
+      one e updating k (Fold a) (with_known x s) (if_takes (takes q.clock.records kind x) (behind_fold a s)) refl (λ p q s. refl)
+      (tested updating k (Fold a) (with_known x s) false false (not (has_type (kind_type kind) x)) false false false (sum_leaves q.clock.records kind x) false false false false
+      refl (has_one (length s.stack)) (ap (λ z. not (has_type (kind_type z) x)) is) once refl refl (ap (λ z. sum_leaves q.clock.records z x) is) (room_at_test (length s.stack) room) refl refl (not_last true k updating.n more)
+      ∙ fold_verdict (has_type (kind_type kind) x) (sum_leaves q.clock.records kind x) (behind_fold a s))
+      (λ t h. taken_is (takes q.clock.records kind x) (behind_fold a s) t h)
 
   -- ---- all of them
 
   abbrev pub acc_fits : Acc → Bool
-  acc_fits acc = fits (of_aggregate q.records acc.kind (range q acc.operand))
+  acc_fits acc = fits (of_aggregate q.clock.records acc.kind (range q acc.operand))
 
   abbrev pub accs_fit : List Acc → Bool
   accs_fit accs = list_all acc_fits accs
@@ -113,11 +113,11 @@ module _ (q : Query) (b : Costs) where
 
   -- a fault in the operand, in its fold, or behind it
   fold_fits : (kind : Kind) (r : Range) (s : State) (w : Bool) → suits (kind_type kind) r ≡ true →
-      or_behind (known_of (kind_type kind) r) (λ x. or_behind (if_takes (takes q.records kind x) s) (λ t. not w)) ≡ not (fits (of_aggregate q.records kind r) && w)
+      or_behind (known_of (kind_type kind) r) (λ x. or_behind (if_takes (takes q.clock.records kind x) s) (λ t. not w)) ≡ not (fits (of_aggregate q.clock.records kind r) && w)
   fold_fits Sum Unfit s w h = refl
   fold_fits Sum NoNumber s w h = no h
   fold_fits Sum (Within x) s w h =
-      elim (is_i64 (q.records *ℤ x.lo) && is_i64 (q.records *ℤ x.hi)) as (λ a. or_behind (if_takes (true && not (not a)) s) (λ t. not w) ≡ not (fits (cond a (Within (interval (int_min x.lo (q.records *ℤ x.lo)) (int_max x.hi (q.records *ℤ x.hi)))) Unfit) && w)) [
+      elim (is_i64 (q.clock.records *ℤ x.lo) && is_i64 (q.clock.records *ℤ x.hi)) as (λ a. or_behind (if_takes (true && not (not a)) s) (λ t. not w) ≡ not (fits (cond a (Within (interval (int_min x.lo (q.clock.records *ℤ x.lo)) (int_max x.hi (q.clock.records *ℤ x.hi)))) Unfit) && w)) [
         | true ↦ refl
         | false ↦ refl
       ]
@@ -147,7 +147,7 @@ module _ (q : Query) (b : Costs) where
       let j = k + size q 0 x in
       let rest = folds q (j + 1) (suc a) accs in
       let w = accs_fit accs in
-      let goal = λ (z : Known). or_behind (if_takes (takes q.records acc.kind z) (behind_fold a s)) (λ t. not w) in
+      let goal = λ (z : Known). or_behind (if_takes (takes q.clock.records acc.kind z) (behind_fold a s)) (λ t. not w) in
       let behind : Ends e updating (j + 1) rest (behind_fold a s) (not w) =
       subst (λ fs. Ends e updating (j + 1) rest (record { stack = []; folded = fs; fields = known_fields 0 q.fields }) (not w)) (sym (set_next a n))
       (folds_ends e (j + 1) (suc a) accs h.1 kinds.1 (next_room (need q 0 x) _ room) (omega (arith, more))) in
@@ -155,9 +155,9 @@ module _ (q : Query) (b : Costs) where
       (ap (λ o. or_behind o goal) (found_here updating q InAggregate (reads_update q b) s.fields refl 0 x (kind_type acc.kind) h.0 (no_accs 0 (accumulators_of x))) ∙ fold_fits acc.kind (range q x) (behind_fold a s) w (range_suits updating q InAggregate x (kind_type acc.kind) h.0))
       (follow_ends e updating k (size q 0 x) (code q k 0 x) (Fold a ∷ rest) s (found updating q s.fields 0 x) goal (length-code q k 0 x) (some_code q k 0 x) (omega arith)
       (labelled e updating q InAggregate (reads_update q b) k 0 x (kind_type acc.kind) s refl h.0 (no_accs 0 (accumulators_of x)) (sole_room (need q 0 x) _ room) (omega (arith, more, some_folds_size q accs)))
-      (λ z ez. sequence_ends e updating j (Fold a ∷ []) rest (with_known z s) (if_takes (takes q.records acc.kind z) (behind_fold a s)) (λ t. not w) (omega arith) (some_folds q (j + 1) (suc a) accs)
+      (λ z ez. sequence_ends e updating j (Fold a ∷ []) rest (with_known z s) (if_takes (takes q.clock.records acc.kind z) (behind_fold a s)) (λ t. not w) (omega arith) (some_folds q (j + 1) (suc a) accs)
       (fold_one e j a z s acc.kind kinds.0 (unset a n) (omega arith) (omega (arith, more, some_folds_size q accs)))
-      (λ t ht. subst (λ u. Ends e updating (j + 1) rest u (not w)) (same_Some (behind_fold a s) t (taken_is (takes q.records acc.kind z) (behind_fold a s) t ht)) behind)))
+      (λ t ht. subst (λ u. Ends e updating (j + 1) rest u (not w)) (same_Some (behind_fold a s) t (taken_is (takes q.clock.records acc.kind z) (behind_fold a s) t ht)) behind)))
 
   entry_flags : (accs : List Acc) → map (λ k. false) (kinds_of q accs) ≡ replicate (length accs) false
   entry_flags [] = refl

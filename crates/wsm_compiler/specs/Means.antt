@@ -3,12 +3,12 @@ use Rattle.std.specs.Prelude.{map, unsigned_abs}
 use Rattle.wsm_semantics.specs.Query.{Query as Meant}
 use Rattle.wsm_query.specs.Tree.{Query}
 use Rattle.wsm_compiler.specs.Meaning.{selects, row}
-use Rattle.wsm_check.specs.Parts.{schema_of, parts_of}
-use Rattle.wsm_compiler.specs.Program.{clock_of, every}
+use Rattle.wsm_check.specs.Parts.{schema_of}
+use Rattle.wsm_compiler.specs.Program.{every}
 
 abbrev pub meant : Query → Meant
 meant q = record {
-  clock = clock_of (parts_of q);
+  clock = q.clock;
   declared = schema_of q;
   shape = q.shape;
   mode = q.mode;

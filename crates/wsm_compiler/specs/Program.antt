@@ -1,16 +1,11 @@
 -- The program of a query: that of what a checked query has.
 use Rattle.std.specs.Prelude.{map, ℤ, pos, unsigned_abs, Option, Some, None}
-use Rattle.wsm_admission.specs.declared.clock.Clock.{Clock}
 use Rattle.wsm_program.specs.declared.program.Costs.{Costs}
 use Rattle.wsm_program.specs.Program.{Header, Program}
 use Rattle.wsm_rules.specs.Costs.{needed}
 use Rattle.wsm_query.specs.Tree.{Query, Budget}
 use Rattle.wsm_check.specs.Parts.{Parts, parts_of}
 use Rattle.wsm_compiler.specs.TermCode.{ending_code, foldings_code, firing_code}
-
--- what it says of event time
-abbrev pub clock_of : Parts → Clock
-clock_of p = record { start = p.start; skew = p.skew; lateness = p.lateness; from_window = p.from_window; records = p.records }
 
 -- 0 where there is no count
 abbrev pub every : Option ℤ → ℤ
@@ -20,7 +15,7 @@ every (Some n) = n
 abbrev pub header_stating : Parts → Costs → Header
 header_stating p stated = record {
   schema = p.schema;
-  clock = clock_of p;
+  clock = p.clock;
   shape = p.shape;
   mode = p.mode;
   early = every p.early;

@@ -101,8 +101,8 @@ where_false (Some t) fs = narrowed_fields t.field (opposite t.comparison) t.numb
 abbrev pub range_on : Query → List DeclaredField → Expr → Range
 range_on q fs (Number n) = Within (interval n n)
 range_on q fs (Field x) = of_type (type_of x fs)
-range_on q fs Count = Within (interval (pos 1) q.records)
-range_on q fs (Aggregate kind e) = of_aggregate q.records kind (range_on q q.fields e)
+range_on q fs Count = Within (interval (pos 1) q.clock.records)
+range_on q fs (Aggregate kind e) = of_aggregate q.clock.records kind (range_on q q.fields e)
 range_on q fs (If c x y) = if_fits (range_on q fs c) (of_branches (range_on q (where_true (test_of q 0 c) fs) x) (range_on q (where_false (test_of q 0 c) fs) y))
 range_on q fs (Brackets e) = range_on q fs e
 range_on q fs (Minus e) = of_minus (range_on q fs e)

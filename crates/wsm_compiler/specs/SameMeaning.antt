@@ -33,7 +33,7 @@ record_in_range q key values = nat_lt key (length q.keys) && fit_fields (schema_
 -- such records of a key: at least one, and at most as many as the query allows
 pub record IsPane (q : Query) (key : ℕ) (records : List (List Value)) : Type 0 where
   pub some : 1 ≤ length records
-  pub few : pos (length records) ≤ℤ q.records
+  pub few : pos (length records) ≤ℤ q.clock.records
   pub each : list_all (record_in_range q key) records ≡ true
 
 -- ---- values

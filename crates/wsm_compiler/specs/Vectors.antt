@@ -11,7 +11,7 @@ use Rattle.wsm_interval.specs.declared.Comparison.TheVariants as compare
 use Rattle.wsm_record.specs.Schema as field_types
 use Rattle.wsm_query.specs.Tree.{Query, Expr, Number, Truth, Field, Count, Aggregate, If, Minus, Binary, And}
 use Rattle.wsm_program.specs.declared.instr.Instr.TheVariants as instr
-use Rattle.wsm_program.specs.declared.operation.Operation.TheVariants as operation
+use Rattle.wsm_interval.specs.declared.arithmetic.Arithmetic.TheVariants as arithmetics
 use Rattle.wsm_program.specs.declared.instr.SectionId.TheVariants.{Where, Update, Fire}
 use Rattle.wsm_program.specs.Program.{is_header, is_section, is_program}
 use Rattle.wsm_record.specs.Schema.{is_schema}
@@ -42,11 +42,7 @@ base = record {
   keys = codes "a" ∷ codes "b" ∷ [];
   fields = record { name = codes "n"; type = field_types.Int (pos 0) (pos 100) } ∷ [];
   sources = [];
-  start = pos 0;
-  skew = pos 100;
-  lateness = pos 10;
-  from_window = false;
-  records = pos 1000;
+  clock = record { start = pos 0; skew = pos 100; lateness = pos 10; from_window = false; records = pos 1000 };
   budget = None;
   columns = Count ∷ Aggregate Sum n ∷ [];
   condition = None;
@@ -74,7 +70,7 @@ base_clock = refl
 
 -- `SOURCES x, y; .. LATENESS 10 FROM WINDOW; .. FIXED 60 RETRACTING`
 abbrev of_two_sources : Query
-of_two_sources = record base { sources = codes "x" ∷ codes "y" ∷ []; from_window = true; mode = Retracting }
+of_two_sources = record base { sources = codes "x" ∷ codes "y" ∷ []; clock = record base.clock { from_window = true }; mode = Retracting }
 
 two_sources_clock : (program_of of_two_sources).header.clock ≡ record { start = pos 0; skew = pos 100; lateness = pos 10; from_window = true; records = pos 1000 }
 two_sources_clock = refl
@@ -127,7 +123,7 @@ by_sum_unfit : ranges_fit by_sum ≡ false
 by_sum_unfit = refl
 
 abbrev wide : Query
-wide = record base { fields = record { name = codes "n"; type = field_types.Int (pos 0) (pos 1000000000000) } ∷ []; records = pos 1000000000000 }
+wide = record base { fields = record { name = codes "n"; type = field_types.Int (pos 0) (pos 1000000000000) } ∷ []; clock = record base.clock { records = pos 1000000000000 } }
 
 wide_rejected : judge (program_of wide) ≡ Err (record { part = Code Update; place = 1; rule = AccumulatorRange })
 wide_rejected = refl
@@ -142,7 +138,7 @@ base_fits = refl
 abbrev guarded : Query
 guarded = record base { condition = Some (And (Binary Ne n (Number (pos 0))) (Binary Gt (Binary Div (Number (pos 10)) n) (Number (pos 1)))) }
 
-guarded_where : where_section guarded ≡ instr.Test (record { field = 0; comparison = compare.Ne; number = pos 0 }) 7 ∷ instr.PushInt (pos 10) ∷ instr.Field 0 ∷ instr.Operate operation.Div ∷ instr.PushInt (pos 1) ∷ instr.Operate operation.Gt ∷ instr.Jump 8 ∷ instr.PushBool false ∷ instr.Return ∷ []
+guarded_where : where_section guarded ≡ instr.Test (record { field = 0; comparison = compare.Ne; number = pos 0 }) 7 ∷ instr.PushInt (pos 10) ∷ instr.Field 0 ∷ instr.Compute arithmetics.Div ∷ instr.PushInt (pos 1) ∷ instr.Compare compare.Gt ∷ instr.Jump 8 ∷ instr.PushBool false ∷ instr.Return ∷ []
 guarded_where = refl
 
 -- where it is divided by n, n is known not to be 0
@@ -157,7 +153,7 @@ guarded_run : run (program_of guarded) Where (record { key = 0; values = value.I
 guarded_run = refl
 
 -- a condition with two accumulators, numbered from the left behind those of the columns
-two_accumulators : fire_section (record base { having = Some (Binary Lt (Aggregate Min n) (Aggregate Max n)) }) ≡ instr.Count ∷ instr.Acc 0 ∷ instr.Acc 1 ∷ instr.Acc 2 ∷ instr.Operate operation.Lt ∷ instr.Return ∷ []
+two_accumulators : fire_section (record base { having = Some (Binary Lt (Aggregate Min n) (Aggregate Max n)) }) ≡ instr.Count ∷ instr.Acc 0 ∷ instr.Acc 1 ∷ instr.Acc 2 ∷ instr.Compare compare.Lt ∷ instr.Return ∷ []
 two_accumulators = refl
 
 -- ---- meanings

@@ -4,10 +4,9 @@ ghost use Rattle.std.specs.Prelude.{◌≡◌, map, IfOk};
 ghost use Rattle.wsm_program.specs.View.{header_of};
 ghost use Rattle.wsm_check.specs.Seen.{seen_folding, seen_parts};
 ghost use Rattle.wsm_compiler.specs.Program as spec;
-ghost use Rattle.wsm_compiler.specs.Program.{clock_of, header_stating};
+ghost use Rattle.wsm_compiler.specs.Program.{header_stating};
 
 use std::alloc::{AllocError, Global};
-use wsm_admission::Clock;
 use wsm_check::{Folding, Parts};
 use wsm_program::{Costs, Header};
 use wsm_record::Kind;
@@ -16,11 +15,10 @@ use wsm_record::Kind;
 pub fn header(alloc: Global, parts: Parts, budget: Costs) -> Result<Header, AllocError>
     ensures { IfOk result (λ header. header_of header ≡ header_stating (seen_parts parts) budget) }
 {
-    let clock = clock(&parts);
     let kinds = kinds(alloc, &parts.foldings)?;
     Ok(Header {
         schema: parts.schema,
-        clock,
+        clock: parts.clock,
         shape: parts.shape,
         mode: parts.mode,
         early: every(parts.early),
@@ -30,19 +28,6 @@ pub fn header(alloc: Global, parts: Parts, budget: Costs) -> Result<Header, Allo
         columns: parts.types,
         budget,
     })
-}
-
-// What it says of event time.
-fn clock(parts: &Parts) -> Clock
-    ensures { result ≡ clock_of (seen_parts parts.now) }
-{
-    Clock {
-        start: parts.start,
-        skew: parts.skew,
-        lateness: parts.lateness,
-        from_window: parts.from_window,
-        records: parts.records,
-    }
 }
 
 // After how many records a firing comes, or 0 where none does.

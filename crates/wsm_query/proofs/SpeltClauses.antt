@@ -9,11 +9,10 @@ use Rattle.wsm_tokens.specs.declared.token.Sign.{Sign}
 use Rattle.wsm_tokens.specs.declared.token.Sign.TheVariants as signs
 use Rattle.wsm_tokens.specs.Tokens.{Token, Word, Mark, Tokens, sign_text}
 use Rattle.wsm_tokens.specs.Read.{Read, Rule, Took, Stopped, ◌>>=◌, give, and_then, count, behind, ask, name}
-use Rattle.wsm_query.specs.declared.reading.ClockClauses.{ClockClauses}
 use Rattle.wsm_query.specs.declared.reading.Written.{Written}
 use Rattle.wsm_query.specs.Tree.{Name, Budget, Selection}
 use Rattle.wsm_query.specs.Grammar.{one_of, until, clause, optional, turns, brace, list_of, expr, names, sources, from_window, budget, clock, selection, output, shape, mode, form, every}
-use Rattle.wsm_query.specs.Print.{figures, expr_tokens, with_commas, clause_tokens, sources_tokens, from_window_tokens, budget_tokens, condition_tokens, shape_tokens, mode_word, every_tokens, form_word}
+use Rattle.wsm_query.specs.Print.{figures, expr_tokens, with_commas, clause_tokens, sources_tokens, from_window_tokens, budget_tokens, condition_tokens, shape_tokens, mode_word, every_tokens, form_word, clock_tokens}
 use Rattle.wsm_query.proofs.Spelt.{Says, word_says, sign_says, Spelt, spelt, step, done, alike_goes, behind_opens, lost_goes, either_goes, Entry, Entries, listed_goes}
 use Rattle.wsm_query.proofs.SpeltRules.{word_spelt, sign_spelt, after_spelt, number_spelt, name_spelt, expr_spelt}
 
@@ -102,14 +101,6 @@ every_spelt = after_spelt (codes "EVERY") (word_says _ refl) number_spelt
 
 pub interval_spelt : (s : List ℕ) → Says s (Word s) → Spelt (optional s every) (every_tokens s)
 interval_spelt s k = optional_spelt s k (every_tokens s) refl (λ x. refl) every_spelt
-
--- what a clock is printed as
-abbrev pub clock_tokens : ClockClauses → List Token
-clock_tokens c =
-    clause_tokens (codes "START") (figures c.start)
-    ++ clause_tokens (codes "SKEW") (figures c.skew)
-    ++ clause_tokens (codes "LATENESS") (figures c.lateness ++ from_window_tokens c.from_window)
-    ++ clause_tokens (codes "RECORDS") (figures c.records)
 
 from_window_spelt : Spelt from_window from_window_tokens
 unfolding from_window

@@ -23,11 +23,7 @@ behind_sources keys fields sources = do
     keys = keys;
     fields = fields;
     sources = sources;
-    start = clock.start;
-    skew = clock.skew;
-    lateness = clock.lateness;
-    from_window = clock.from_window;
-    records = clock.records;
+    clock = clock;
     budget = budget;
     columns = selection.columns;
     condition = selection.condition;
@@ -56,9 +52,9 @@ tail_blind keys fields =
 abbrev pub head_tokens : List Name → List DeclaredField → List Token
 head_tokens keys fields = clause_tokens (codes "KEYS") (name_tokens keys) ++ flat_map field_tokens fields
 
--- the clauses of a clock, of what is selected and of what is written, one by one
-apart : (h o s k l r b c w v x m t f : List Token) → h ++ o ++ (s ++ k ++ l ++ r) ++ b ++ (c ++ w ++ v) ++ (x ++ m ++ t ++ f) ≡ h ++ o ++ s ++ k ++ l ++ r ++ b ++ c ++ w ++ v ++ x ++ m ++ t ++ f
-apart h o s k l r b c w v x m t f = simp append_assoc
+-- the clauses of what is selected and of what is written, one by one
+apart : (h o k b c w v x m t f : List Token) → h ++ o ++ k ++ b ++ (c ++ w ++ v) ++ (x ++ m ++ t ++ f) ≡ h ++ o ++ k ++ b ++ c ++ w ++ v ++ x ++ m ++ t ++ f
+apart h o k b c w v x m t f = simp append_assoc
 
 pub tail_goes : {b : Tokens} (keys : List Name) (fields : List DeclaredField) → Goes b (head_tokens keys fields) (behind_fields keys fields) query_tokens
 tail_goes keys fields =
@@ -72,11 +68,7 @@ tail_goes keys fields =
       keys = keys;
       fields = fields;
       sources = sources;
-      start = clock.start;
-      skew = clock.skew;
-      lateness = clock.lateness;
-      from_window = clock.from_window;
-      records = clock.records;
+      clock = clock;
       budget = budget;
       columns = selection.columns;
       condition = selection.condition;

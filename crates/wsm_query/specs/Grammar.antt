@@ -12,7 +12,7 @@ use Rattle.wsm_windows.specs.declared.window.Shape.TheVariants.{Fixed, Sliding, 
 use Rattle.wsm_tokens.specs.Tokens.{Tokens}
 use Rattle.wsm_tokens.specs.Read.{Rule, Took, Stopped, ◌>>=◌, give, and_then, unexpected, too_deep, begins, begins_number, behind, count, ask, number, name}
 use Rattle.wsm_query.specs.declared.expr.Op.{Op}
-use Rattle.wsm_query.specs.declared.reading.ClockClauses.{ClockClauses}
+use Rattle.wsm_admission.specs.declared.clock.Clock.{Clock}
 use Rattle.wsm_query.specs.declared.reading.Written.{Written}
 use Rattle.wsm_query.specs.declared.expr.Op.TheVariants.{Add, Sub, Mul, Div, Rem, Eq, Ne, Lt, Le, Gt, Ge}
 use Rattle.wsm_record.specs.Schema.{FieldType, DeclaredField}
@@ -289,7 +289,7 @@ unfoldable pub from_window : Rule Bool
 from_window = either (codes "FROM") (after (codes "WINDOW") (give true)) (give false)
 
 -- START to RECORDS
-unfoldable pub clock : Rule ClockClauses
+unfoldable pub clock : Rule Clock
 clock = do
   start ← clause (codes "START") number
   skew ← clause (codes "SKEW") number
@@ -329,11 +329,7 @@ query = do
     keys = keys;
     fields = fields;
     sources = sources;
-    start = clock.start;
-    skew = clock.skew;
-    lateness = clock.lateness;
-    from_window = clock.from_window;
-    records = clock.records;
+    clock = clock;
     budget = budget;
     columns = selection.columns;
     condition = selection.condition;

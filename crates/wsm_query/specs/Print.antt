@@ -13,6 +13,7 @@ use Rattle.wsm_tokens.specs.declared.token.Sign.{Sign}
 use Rattle.wsm_tokens.specs.declared.token.Sign.TheVariants as signs
 use Rattle.wsm_tokens.specs.Tokens.{Token, Word, Mark, Number as Figure}
 use Rattle.wsm_tokens.specs.Written.{written}
+use Rattle.wsm_admission.specs.declared.clock.Clock.{Clock}
 use Rattle.wsm_query.specs.declared.expr.Op.{Op}
 use Rattle.wsm_query.specs.declared.expr.Op.TheVariants.{Add, Sub, Mul, Div, Rem, Eq, Ne, Lt, Le, Gt, Ge}
 use Rattle.wsm_record.specs.Schema.{FieldType, DeclaredField}
@@ -130,15 +131,20 @@ form_word Istream = codes "ISTREAM"
 form_word Dstream = codes "DSTREAM"
 form_word Rstream = codes "RSTREAM"
 
+-- from START to RECORDS
+abbrev pub clock_tokens : Clock → List Token
+clock_tokens c =
+    clause_tokens (codes "START") (figures c.start)
+    ++ clause_tokens (codes "SKEW") (figures c.skew)
+    ++ clause_tokens (codes "LATENESS") (figures c.lateness ++ from_window_tokens c.from_window)
+    ++ clause_tokens (codes "RECORDS") (figures c.records)
+
 abbrev pub query_tokens : Query → List Token
 query_tokens q =
     clause_tokens (codes "KEYS") (name_tokens q.keys)
     ++ flat_map field_tokens q.fields
     ++ sources_tokens q.sources
-    ++ clause_tokens (codes "START") (figures q.start)
-    ++ clause_tokens (codes "SKEW") (figures q.skew)
-    ++ clause_tokens (codes "LATENESS") (figures q.lateness ++ from_window_tokens q.from_window)
-    ++ clause_tokens (codes "RECORDS") (figures q.records)
+    ++ clock_tokens q.clock
     ++ budget_tokens q.budget
     ++ Word (codes "SELECT") ∷ with_commas (map expr_tokens q.columns)
     ++ condition_tokens (codes "WHERE") q.condition

@@ -6,6 +6,7 @@ use Rattle.wsm_record.specs.declared.words.Mode.{Mode}
 use Rattle.wsm_record.specs.declared.words.Form.{Form}
 use Rattle.wsm_record.specs.Schema.{DeclaredField}
 use Rattle.wsm_windows.specs.declared.window.Shape.{Shape}
+use Rattle.wsm_admission.specs.declared.clock.Clock.{Clock}
 use Rattle.wsm_query.specs.declared.expr.Op.{Op}
 
 -- a name, as its bytes
@@ -46,11 +47,7 @@ pub record Query : Type 0 where
   pub keys : List Name
   pub fields : List DeclaredField
   pub sources : List Name  -- none without the clause
-  pub start : ℤ
-  pub skew : ℤ
-  pub lateness : ℤ
-  pub from_window : Bool  -- lateness counts from the end of a window
-  pub records : ℤ
+  pub clock : Clock  -- START to RECORDS
   pub budget : Option Budget
   pub columns : List Expr
   pub condition : Option Expr  -- WHERE

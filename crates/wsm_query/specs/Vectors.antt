@@ -36,11 +36,7 @@ base = record {
   keys = codes "a" ∷ codes "b" ∷ [];
   fields = record { name = codes "n"; type = field_types.Int (pos 0) (pos 100) } ∷ [];
   sources = [];
-  start = pos 0;
-  skew = pos 100;
-  lateness = pos 10;
-  from_window = false;
-  records = pos 1000;
+  clock = record { start = pos 0; skew = pos 100; lateness = pos 10; from_window = false; records = pos 1000 };
   budget = None;
   columns = Count ∷ Aggregate Sum (Field (codes "n")) ∷ [];
   condition = None;
@@ -91,9 +87,9 @@ trees_read = refl
 abbrev printed : List (List ℕ × Result Query ParseRefusal)
 printed =
     (codes "KEYS a , b ; FIELD n INT 0 .. 100 ; SOURCES x ; START 0 ; SKEW 100 ; LATENESS 10 ; RECORDS 1000 ; SELECT COUNT ( * ) , SUM ( n ) WINDOW FIXED 60 ACCUMULATING EMIT PANES ;", Ok (record base { sources = codes "x" ∷ [] }))
-    ∷ (codes "KEYS a , b ; FIELD n INT 0 .. 100 ; START 0 ; SKEW 100 ; LATENESS 10 FROM WINDOW ; RECORDS 1000 ; SELECT COUNT ( * ) , SUM ( n ) WINDOW FIXED 60 ACCUMULATING EMIT PANES ;", Ok (record base { from_window = true }))
+    ∷ (codes "KEYS a , b ; FIELD n INT 0 .. 100 ; START 0 ; SKEW 100 ; LATENESS 10 FROM WINDOW ; RECORDS 1000 ; SELECT COUNT ( * ) , SUM ( n ) WINDOW FIXED 60 ACCUMULATING EMIT PANES ;", Ok (record base { clock = record base.clock { from_window = true } }))
     ∷ (codes "KEYS a , b ; FIELD n INT 0 .. 100 ; START 0 ; SKEW 100 ; LATENESS 10 ; RECORDS 1000 ; SELECT COUNT ( * ) , SUM ( n ) WINDOW FIXED 60 RETRACTING EMIT PANES ;", Ok (record base { mode = Retracting }))
-    ∷ (codes "KEYS a , b ; FIELD n INT 0 .. 100 ; SOURCES x , y ; START 0 ; SKEW 100 ; LATENESS 10 FROM WINDOW ; RECORDS 1000 ; SELECT COUNT ( * ) , SUM ( n ) WINDOW FIXED 60 RETRACTING EMIT PANES ;", Ok (record base { sources = codes "x" ∷ codes "y" ∷ []; from_window = true; mode = Retracting }))
+    ∷ (codes "KEYS a , b ; FIELD n INT 0 .. 100 ; SOURCES x , y ; START 0 ; SKEW 100 ; LATENESS 10 FROM WINDOW ; RECORDS 1000 ; SELECT COUNT ( * ) , SUM ( n ) WINDOW FIXED 60 RETRACTING EMIT PANES ;", Ok (record base { sources = codes "x" ∷ codes "y" ∷ []; clock = record base.clock { from_window = true }; mode = Retracting }))
     ∷ []
 
 printed_read : map (λ t. (t.0, parse t.0)) printed ≡ printed

@@ -1,8 +1,8 @@
 //! The rules of the grammar below the expressions: a function each, in the grammar's order.
 
 ghost use Rattle.std.specs.Prelude.{◌≡◌, ◌≤◌, codes, map};
-ghost use Rattle.wsm_tokens.specs.Read.{Gives, count};
-ghost use Rattle.wsm_query.specs.Grammar.{int, names, type_of, field, brace, list_of, expr, shape, mode, form, every, budget, from_window, sources};
+ghost use Rattle.wsm_tokens.specs.Read.{Gives, count, number};
+ghost use Rattle.wsm_query.specs.Grammar.{int, names, type_of, field, brace, list_of, expr, shape, mode, form, every, budget, clause as one_clause, clock, from_window, sources};
 ghost use Rattle.wsm_record.specs.Fields.{declared_field, declared_type};
 ghost use Rattle.wsm_query.specs.Seen.{seen_budget, seen_expr};
 
@@ -10,6 +10,7 @@ use crate::expr::Expr;
 use crate::parse_expr::expression;
 use crate::query::Budget;
 use std::alloc::Global;
+use wsm_admission::Clock;
 use wsm_record::{Field, Form, Mode, Name, Ty};
 use wsm_tokens::{Reader, Stop};
 use wsm_windows::Shape;
@@ -112,9 +113,40 @@ pub fn sources(alloc: Global, reader: &mut Reader) -> Result<Vec<Name>, Stop>
     Ok(sources)
 }
 
-/// `[ "FROM" "WINDOW" ]`, behind the number of LATENESS: whether the words stand there
+/// `"START" num ";" "SKEW" num ";" "LATENESS" num [ "FROM" "WINDOW" ] ";" "RECORDS" num ";"`
+#[tactic(auto, unfolding(crate::specs::Grammar::clock))]
+pub fn clock(reader: &mut Reader) -> Result<Clock, Stop>
+    ensures { Gives (λ c. c) result reader.new (clock reader.old) }
+{
+    let start = clause(reader, b"START")?;
+    let skew = clause(reader, b"SKEW")?;
+    reader.ask(b"LATENESS")?;
+    let lateness = reader.number()?;
+    let from_window = from_window(reader)?;
+    reader.ask(b";")?;
+    let records = clause(reader, b"RECORDS")?;
+    Ok(Clock {
+        start,
+        skew,
+        lateness,
+        from_window,
+        records,
+    })
+}
+
+// A word, a number and a semicolon.
+fn clause(reader: &mut Reader, word: &[u8]) -> Result<i64, Stop>
+    ensures { Gives (λ n. n) result reader.new (one_clause word.now number reader.old) }
+{
+    reader.ask(word)?;
+    let value = reader.number()?;
+    reader.ask(b";")?;
+    Ok(value)
+}
+
+// `[ "FROM" "WINDOW" ]`, behind the number of LATENESS: whether the words stand there
 #[tactic(auto, unfolding(crate::specs::Grammar::from_window))]
-pub fn from_window(reader: &mut Reader) -> Result<bool, Stop>
+fn from_window(reader: &mut Reader) -> Result<bool, Stop>
     ensures gives { Gives (λ b. b) result reader.new (from_window reader.old) }
     ensures onward { count reader.new ≤ count reader.old }
 {

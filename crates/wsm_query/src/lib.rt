@@ -28,8 +28,8 @@
 //! ```
 //!
 //! Behind the fields `SOURCES x, y;` may name the sources of watermarks, in [`Query::sources`]. With
-//! `LATENESS 10 FROM WINDOW;` lateness counts from the end of a window, which is
-//! [`Query::from_window`]. The mode, behind the windows, is `ACCUMULATING`, `DISCARDING` or
+//! `LATENESS 10 FROM WINDOW;` lateness counts from the end of a window, which is `from_window` of
+//! [`Query::clock`]. The mode, behind the windows, is `ACCUMULATING`, `DISCARDING` or
 //! `RETRACTING`.
 #![tactic(auto)]
 

@@ -4,7 +4,7 @@ ghost use Rattle.std.specs.Prelude.{◌≡◌, ◌∷◌, ◌++◌, [], codes, m
 ghost use Rattle.std.specs.List.{flat_map};
 ghost use Rattle.wsm_query.specs.Adds.{adds, comma_before};
 ghost use Rattle.wsm_query.specs.Print as rule;
-ghost use Rattle.wsm_query.specs.Print.{budget_tokens, clause_tokens, condition_tokens, every_tokens, expr_tokens, field_tokens, figures, from_window_tokens, name_tokens, shape_tokens, sources_tokens, ty_tokens, with_commas};
+ghost use Rattle.wsm_query.specs.Print.{budget_tokens, clause_tokens, clock_tokens, condition_tokens, every_tokens, expr_tokens, field_tokens, figures, from_window_tokens, name_tokens, shape_tokens, sources_tokens, ty_tokens, with_commas};
 ghost use Rattle.wsm_record.specs.Fields.{declared_field, declared_type};
 ghost use Rattle.wsm_query.specs.Seen.{seen_budget, seen_expr};
 
@@ -13,6 +13,7 @@ use crate::print_expr::expr;
 use crate::print_tokens::{number, sign, word};
 use crate::query::Budget;
 use std::alloc::AllocError;
+use wsm_admission::Clock;
 use wsm_record::{Field, Form, Mode, Name, Ty};
 use wsm_tokens::Sign;
 use wsm_windows::Shape;
@@ -95,9 +96,20 @@ fn type_of(text: &mut Vec<u8>, ty: &Ty) -> Result<(), AllocError>
     }
 }
 
-/// Adds a word, a number and a semicolon.
+/// Adds the clauses of a clock, from START to RECORDS.
 #[tactic(auto, using(crate::proofs::Written::parts))]
-pub fn clause(text: &mut Vec<u8>, front: &[u8], value: i64) -> Result<(), AllocError>
+pub fn clock(text: &mut Vec<u8>, clock: Clock) -> Result<(), AllocError>
+    ensures { OnOk result (text.new.items ≡ adds text.old.items (clock_tokens clock)) }
+{
+    clause(text, b"START", clock.start)?;
+    clause(text, b"SKEW", clock.skew)?;
+    lateness(text, clock.lateness, clock.from_window)?;
+    clause(text, b"RECORDS", clock.records)
+}
+
+// Adds a word, a number and a semicolon.
+#[tactic(auto, using(crate::proofs::Written::parts))]
+fn clause(text: &mut Vec<u8>, front: &[u8], value: i64) -> Result<(), AllocError>
     ensures { OnOk result (text.new.items ≡ adds text.old.items (clause_tokens front.now (figures value))) }
 {
     word(text, front)?;
@@ -118,9 +130,9 @@ pub fn sources(text: &mut Vec<u8>, sources: &[Name]) -> Result<(), AllocError>
     sign(text, Sign::Semicolon)
 }
 
-/// Adds the clause of lateness, from a record's own time or from the end of a window.
+// Adds the clause of lateness, from a record's own time or from the end of a window.
 #[tactic(auto, using(crate::proofs::Written::parts))]
-pub fn lateness(text: &mut Vec<u8>, value: i64, from_window: bool) -> Result<(), AllocError>
+fn lateness(text: &mut Vec<u8>, value: i64, from_window: bool) -> Result<(), AllocError>
     ensures { OnOk result (text.new.items ≡ adds text.old.items (clause_tokens (codes "LATENESS") (figures value ++ from_window_tokens from_window))) }
 {
     word(text, b"LATENESS")?;

@@ -4,12 +4,11 @@ ghost use Rattle.std.specs.Prelude.{◌≡◌, ◌∷◌, ◌++◌, [], codes, m
 ghost use Rattle.wsm_tokens.specs.Tokens.{Word};
 ghost use Rattle.wsm_query.specs.Adds.{adds};
 ghost use Rattle.wsm_query.specs.Print as rule;
-ghost use Rattle.wsm_query.specs.Print.{clause_tokens, condition_tokens, every_tokens, expr_tokens, figures, from_window_tokens, print, shape_tokens, with_commas};
+ghost use Rattle.wsm_query.specs.Print.{clause_tokens, condition_tokens, every_tokens, expr_tokens, print, shape_tokens, with_commas};
 ghost use Rattle.wsm_query.specs.Seen.{seen};
 
 use crate::print_clauses::{
-    budget, clause, columns, condition, every, fields, form_word, lateness, mode_word, names,
-    shape, sources,
+    budget, clock, columns, condition, every, fields, form_word, mode_word, names, shape, sources,
 };
 use crate::print_tokens::{sign, word};
 use crate::query::Query;
@@ -27,24 +26,11 @@ pub fn print(alloc: Global, query: &Query) -> Result<Vec<u8>, AllocError>
     sign(&mut text, Sign::Semicolon)?;
     fields(&mut text, &query.fields)?;
     sources(&mut text, &query.sources)?;
-    limits(&mut text, query)?;
+    clock(&mut text, query.clock)?;
     budget(&mut text, query.budget)?;
     selection(&mut text, query)?;
     output(&mut text, query)?;
     Ok(text)
-}
-
-// The clauses from START to RECORDS.
-#[tactic(auto, using(crate::proofs::Written::parts))]
-fn limits(text: &mut Vec<u8>, query: &Query) -> Result<(), AllocError>
-    ensures { OnOk result (text.new.items ≡ adds text.old.items
-        (clause_tokens (codes "START") (figures query.now.start) ++ clause_tokens (codes "SKEW") (figures query.now.skew)
-        ++ clause_tokens (codes "LATENESS") (figures query.now.lateness ++ from_window_tokens query.now.from_window) ++ clause_tokens (codes "RECORDS") (figures query.now.records))) }
-{
-    clause(text, b"START", query.start)?;
-    clause(text, b"SKEW", query.skew)?;
-    lateness(text, query.lateness, query.from_window)?;
-    clause(text, b"RECORDS", query.records)
 }
 
 // What is selected, and of which records and panes.

@@ -1,6 +1,7 @@
 //! The tree of a query.
 
 use crate::expr::Expr;
+use wsm_admission::Clock;
 use wsm_record::{Field, Form, Mode, Name};
 use wsm_windows::Shape;
 
@@ -24,16 +25,8 @@ pub struct Query {
     pub fields: Vec<Field>,
     /// The sources of watermarks, in the order of their clause. A query without the clause has none.
     pub sources: Vec<Name>,
-    /// Where the watermark starts, in event time.
-    pub start: i64,
-    /// How far ahead of the watermark a record may be, in event time.
-    pub skew: i64,
-    /// How far behind the watermark a record, or the end of its last window, may be, in event time.
-    pub lateness: i64,
-    /// Whether lateness counts from the end of a window, and not from a record's own time.
-    pub from_window: bool,
-    /// How many records are admitted.
-    pub records: i64,
+    /// By which records and watermarks are admitted: the clauses from START to RECORDS.
+    pub clock: Clock,
     /// What the query states that it needs. Without it the program states its need.
     pub budget: Option<Budget>,
     /// What is selected.

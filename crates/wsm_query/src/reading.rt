@@ -1,15 +1,13 @@
 //! The rule of a whole query, and the reading of a text.
 
 ghost use Rattle.std.specs.Prelude.{◌≡◌, Ok, IfOk, codes, map, option_map};
-ghost use Rattle.wsm_tokens.specs.Read.{Gives, number};
+ghost use Rattle.wsm_tokens.specs.Read.{Gives};
 ghost use Rattle.wsm_query.specs.Grammar as rule;
 ghost use Rattle.wsm_query.specs.Parse.{Parses, parse, query_text, to_end};
 ghost use Rattle.wsm_query.specs.Print.{print};
 ghost use Rattle.wsm_query.specs.Seen.{seen, seen_budget, seen_expr, seen_selection};
 
-use crate::clauses::{
-    budget, columns, every, fields, form, from_window, mode, names, shape, sources,
-};
+use crate::clauses::{budget, clock, columns, every, fields, form, mode, names, shape, sources};
 use crate::expr::Expr;
 use crate::parse_expr::boxed_expression;
 use crate::query::{Budget, Query};
@@ -17,16 +15,6 @@ use std::alloc::Global;
 use wsm_record::{Form, Mode, Name};
 use wsm_tokens::{ParseRefusal, Reader, Stop, refusal_of};
 use wsm_windows::Shape;
-
-// The clauses from START to RECORDS, by which records and watermarks are admitted.
-#[derive(Clone, Copy)]
-struct ClockClauses {
-    start: i64,
-    skew: i64,
-    lateness: i64,
-    from_window: bool,
-    records: i64,
-}
 
 // What is selected, and of which records and panes.
 #[derive(Drop)]
@@ -83,11 +71,7 @@ fn query_text(alloc: Global, reader: &mut Reader) -> Result<Query, Stop>
         keys,
         fields,
         sources,
-        start: clock.start,
-        skew: clock.skew,
-        lateness: clock.lateness,
-        from_window: clock.from_window,
-        records: clock.records,
+        clock,
         budget,
         columns: selection.columns,
         condition: unboxed(selection.condition),
@@ -126,27 +110,6 @@ fn keys(alloc: Global, reader: &mut Reader) -> Result<Vec<Name>, Stop>
     let keys = names(alloc, reader)?;
     reader.ask(b";")?;
     Ok(keys)
-}
-
-// "START" num ";" "SKEW" num ";" "LATENESS" num [ "FROM" "WINDOW" ] ";" "RECORDS" num ";"
-#[tactic(auto, unfolding(crate::specs::Grammar::clock))]
-fn clock(reader: &mut Reader) -> Result<ClockClauses, Stop>
-    ensures { Gives (λ c. c) result reader.new (rule.clock reader.old) }
-{
-    let start = clause(reader, b"START")?;
-    let skew = clause(reader, b"SKEW")?;
-    reader.ask(b"LATENESS")?;
-    let lateness = reader.number()?;
-    let from_window = from_window(reader)?;
-    reader.ask(b";")?;
-    let records = clause(reader, b"RECORDS")?;
-    Ok(ClockClauses {
-        start,
-        skew,
-        lateness,
-        from_window,
-        records,
-    })
 }
 
 // "SELECT" expr { "," expr } [ "WHERE" expr ] [ "HAVING" expr ]
@@ -207,16 +170,6 @@ fn emitted(reader: &mut Reader) -> Result<Form, Stop>
     let form = form(reader)?;
     reader.ask(b";")?;
     Ok(form)
-}
-
-// A word, a number and a semicolon.
-fn clause(reader: &mut Reader, word: &[u8]) -> Result<i64, Stop>
-    ensures { Gives (λ n. n) result reader.new (rule.clause word.now number reader.old) }
-{
-    reader.ask(word)?;
-    let value = reader.number()?;
-    reader.ask(b";")?;
-    Ok(value)
 }
 
 // [ "BUDGET" .. ";" ]

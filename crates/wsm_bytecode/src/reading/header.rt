@@ -15,7 +15,7 @@ use crate::tags::TypeTag;
 use crate::version::Version;
 use std::alloc::Global;
 use wsm_program::named::name_count;
-use wsm_program::{Clock, Costs, DecodeRefusal, Header};
+use wsm_program::{Costs, DecodeRefusal, Header};
 use wsm_record::{CellType, Kind, Schema};
 
 // What a header has behind its settings.
@@ -39,15 +39,9 @@ pub(crate) fn header_of(
     let (fields, rest) = fields_of(alloc, rest)?;
     let (times, rest) = times_of(rest)?;
     let (settings, rest) = settings_of(alloc, version, rest)?;
+    let clock = settings.clock(times);
     let schema = Schema::of_parts(keys, fields, settings.sources);
     let (back, rest) = back_of(alloc, &schema, rest)?;
-    let clock = Clock {
-        start: times.start,
-        skew: times.skew,
-        lateness: times.lateness,
-        from_window: settings.from_window,
-        records: times.records,
-    };
     let header = Header {
         schema,
         clock,

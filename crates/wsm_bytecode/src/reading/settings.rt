@@ -2,13 +2,13 @@
 
 ghost use Rattle.std.specs.Prelude.{◌≡◌, ◌≤◌};
 ghost use Rattle.wsm_bytecode.specs.Steps.{times_at, shape_by, windows_by, mode_at, triggers_at, form_of as form_by_mode, kind_at, kinds_at, several, budget_at};
-ghost use Rattle.wsm_bytecode.specs.Reading.{Gives};
+ghost use Rattle.wsm_bytecode.specs.Reading.{Gives, clock_of, settings_seen};
 
 use crate::limits::{LATEST_TIME, LONGEST_SPAN, MAX_ACCUMULATORS, MAX_HELD, MAX_STATED};
 use crate::reading::numbers::{byte_of, byte_within, i64_within, u64_within};
 use crate::tags::{form_by, kind_by, mode_by};
 use std::alloc::Global;
-use wsm_program::{Costs, DecodeRefusal};
+use wsm_program::{Clock, Costs, DecodeRefusal};
 use wsm_record::{Form, Kind, Mode, Names};
 use wsm_windows::Shape;
 
@@ -33,6 +33,21 @@ pub(crate) struct Settings {
     pub(crate) form: Form,
     /// None where watermarks name no source.
     pub(crate) sources: Names,
+}
+
+impl Settings {
+    /// The clock of these times.
+    pub(crate) fn clock(&self, times: Times) -> Clock
+        ensures { result ≡ clock_of times (settings_seen self.now) }
+    {
+        Clock {
+            start: times.start,
+            skew: times.skew,
+            lateness: times.lateness,
+            from_window: self.from_window,
+            records: times.records,
+        }
+    }
 }
 
 #[tactic(auto, unfolding(crate::specs::Steps::times_at))]

@@ -1,10 +1,12 @@
-use Rattle.std.proofs.Common.{◌≡◌, ◌⊎◌, Option, Some, None, ap, sym}
+use Rattle.std.proofs.Common.{◌≡◌, ◌⊎◌, ◌∙◌, ◌&&◌, Option, Some, None, ap, sym}
+use Rattle.std.proofs.lemmas.Bool.{and_parts}
 use Rattle.std.proofs.lemmas.Result.{err_from_is_err_and}
+use Rattle.wsm_windows.specs.Limits.{is_size, is_span, is_time}
 use Rattle.wsm_query.specs.Seen.{seen}
 use Rattle.wsm_check.specs.declared.refusal.CheckRefusal.{CheckRefusal}
 use Rattle.wsm_check.specs.declared.refusal.CheckRefusal.TheVariants.{Memory}
 use Rattle.wsm_check.specs.Names.{schema_of}
-use Rattle.wsm_check.specs.Parts.{parts_of}
+use Rattle.wsm_check.specs.Parts.{Parts, parts_of}
 use Rattle.wsm_check.specs.Seen.{seen_parts}
 use Rattle.wsm_check.specs.Checks.{or_else, declared_refusal, rest_refusal, sizes_refusal}
 use Rattle.wsm_check.proofs.ChecksInOrder.{stops}
@@ -14,6 +16,14 @@ use Rattle.wsm_check.proofs.checks.checked_parts.Goals as goal
 -- a check that refuses behind two that passed
 refused_last : (r s t u : Option CheckRefusal) (e : CheckRefusal) → r ≡ None → s ≡ None → t ≡ u → (e ≡ Memory) ⊎ (t ≡ Some e) → (e ≡ Memory) ⊎ (or_else r (or_else s (or_else u None)) ≡ Some e)
 refused_last r s t u e first second same h = rw (first, second, sym same) (stops t None e h)
+
+-- the clock is handed on as it is, and its numbers were judged
+pub judge_sizes-requires-clause-lateness : goal.judge_sizes-requires-clause-lateness
+judge_sizes-requires-clause-lateness c =
+    let k = c.args.query.now.clock in
+    let behind_start = and_parts (is_time k.start) (is_span k.skew && (is_span k.lateness && is_size k.records)) c.in_ok-expressions.ensures.clock in
+    let behind_skew = and_parts (is_span k.skew) (is_span k.lateness && is_size k.records) behind_start.1 in
+    ap (λ (p : Parts). is_span p.clock.lateness) c.parts_of-parts.ensures ∙ (and_parts (is_span k.lateness) (is_size k.records) behind_skew.1).0
 
 pub returns-in_err-judge_sizes-clause-judged : goal.returns-in_err-judge_sizes-clause-judged
 returns-in_err-judge_sizes-clause-judged c =

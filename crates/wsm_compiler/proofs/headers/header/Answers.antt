@@ -10,4 +10,4 @@ returns c =
     let early : FitsSigned w64 c.every.result = search rules in
     let late : FitsSigned w64 c.every-2.result = search rules in
     simp to_z-of_z
-    (rw (c.clock-clock.ensures, c.every.ensures, c.every-2.ensures, c.in_ok-kinds.ensures, c.deref.ensures.value) refl)
+    (rw (c.every.ensures, c.every-2.ensures, c.in_ok-kinds.ensures, c.deref.ensures.value) refl)

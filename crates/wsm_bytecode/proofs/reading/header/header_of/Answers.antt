@@ -16,12 +16,8 @@ of_parts-schema-requires c =
 
 pub returns : goal.returns
 returns c =
-    let start : FitsSigned w64 c.in_ok-times.times.start = search rules in
-    let skew : FitsSigned w64 c.in_ok-times.times.skew = search rules in
-    let lateness : FitsSigned w64 c.in_ok-times.times.lateness = search rules in
-    let records : FitsSigned w64 c.in_ok-times.times.records = search rules in
     let early : FitsSigned w64 c.in_ok-settings.settings.early = search rules in
     let late : FitsSigned w64 c.in_ok-settings.settings.late = search rules in
     let schema = c.of_parts-schema.ensures.parts in
     let back = rw schema at c.in_ok-back.ensures in
-    simp to_z-of_z (header_in_parts c.args.version c.args.bytes.now ∙ rw (c.in_ok-keys.ensures, c.in_ok-fields.ensures, c.in_ok-times.ensures, c.in_ok-settings.ensures, back, schema) refl)
+    simp to_z-of_z (header_in_parts c.args.version c.args.bytes.now ∙ rw (c.in_ok-keys.ensures, c.in_ok-fields.ensures, c.in_ok-times.ensures, c.in_ok-settings.ensures, back, schema, c.clock-clock.ensures) refl)
