@@ -6,6 +6,8 @@ pub mod Numbers
 pub mod Copies
 pub mod Entries
 pub mod Netted
+pub mod Words
+pub mod Sides
 pub mod Summing
 pub mod Merging
 pub mod Settled

@@ -1,4 +1,5 @@
 pub mod Rows
 pub mod Bag
+pub mod Words
 pub mod Delta
 pub mod Reserved
