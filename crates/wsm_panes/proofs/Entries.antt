@@ -1,5 +1,5 @@
 -- Edits of a sorted list of entries, and what they do to the map that it stands for.
-use Rattle.std.proofs.Common.{◌≡◌, ◌≢◌, ℕ, ℤ, SFits, w64, to_z, of_z, ◌<◌, ◌≤◌, List, [], ◌∷◌, length, get_or, Bool, true, false, Some, refl, sym, ap, subst, ◌∙◌, inl, inr, arith}
+use Rattle.std.proofs.Common.{◌≡◌, ◌≢◌, ℕ, ℤ, SFits, w64, to_z, of_z, ◌<◌, ◌≤◌, List, length, get_or, Bool, true, false, Some, refl, sym, ap, subst, ◌∙◌, inl, inr, arith}
 use Rattle.std.specs.Prelude.{◌&&◌, nat_eq}
 use Rattle.std.specs.Bool.{Decides}
 use Rattle.std.specs.declared.cmp.Ordering.{Ordering}
@@ -9,8 +9,8 @@ use Rattle.std.specs.Cmp.{tied_itself}
 use Rattle.std.specs.FinMap.{find, is_sorted}
 use Rattle.std.proofs.lemmas.Int.{to_z-of_z}
 use Rattle.std.proofs.lemmas.List.{get_or_default}
-use Rattle.wsm_panes.specs.Search.{IsAt, IsGapFor}
-use Rattle.wsm_panes.proofs.Sorted.{find_absent, find_over, put_over, put_between, reaches, stops, before_within}
+use Rattle.wsm_panes.specs.Search.{IsAt}
+use Rattle.wsm_panes.proofs.Sorted.{find_over, put_over, reaches, stops}
 use Rattle.std.proofs.lemmas.Bool.{cases_Bool}
 use Rattle.std.proofs.lemmas.Bool.Decides.{Decides-int_eq, Decides-eqb, Decides-and, Decides-like}
 use Rattle.wsm_panes.specs.Place.{before}
@@ -47,21 +47,6 @@ at_here es i d q sorted within tie =
       find_here : {P : Type 0} (es : List (Place × P)) (i : ℕ) (e : Place × P) (q : Place) → i ≡ before place_cmp q es → i < length es → (get_or es i e).0 ≡ q → find place_cmp q es ≡ Some (get_or es i e).1
       find_here es i e q here within same =
           subst (λ n. find place_cmp q es ≡ Some (get_or es n e).1) (sym here) (find_over place_cmp places_total es e q (subst (λ n. n < length es) here within) (subst (λ n. (get_or es n e).0 ≡ q) here same))
-
--- where no entry is at the place, and one would go
-pub gap_here : {P : Type 0} (es : List (Place × P)) (d : Place × P) (i : ℕ) (q : Place) → is_sorted place_cmp es ≡ true → i ≡ before place_cmp q es → (i < length es → place_cmp q (get_or es i d).0 ≡ Less) → IsGapFor es q i
-gap_here es d i q sorted here less =
-    let other : before place_cmp q es < length es → (get_or es (before place_cmp q es) d).0 ≢ q = subst (λ n. n < length es → (get_or es n d).0 ≢ q) here (λ w. apart q _ (less w)) in
-    record {
-      within = omega (arith, before_within place_cmp es q);
-      stops = here;
-      absent = find_absent place_cmp places_total places_exact es d q (rw sorted tt) other;
-      puts = λ pane. sym (rw here (put_between place_cmp places_total places_exact es d q pane other));
-    }
-
-pub gap_any : {P : Type 0} (es : List (Place × P)) (i : ℕ) (q : Place) → is_sorted place_cmp es ≡ true → i ≡ before place_cmp q es → ((d : Place × P) → i < length es → place_cmp q (get_or es i d).0 ≡ Less) → IsGapFor es q i
-gap_any [] i q sorted here less = record { within = omega (arith, here); stops = here; absent = refl; puts = λ pane. rw here refl }
-gap_any (e ∷ es) i q sorted here less = gap_here (e ∷ es) e i q sorted here (less e)
 
 -- the test whether two places are one
 abbrev pub eq_place : Place → Place → Bool

@@ -1,24 +1,24 @@
 -- Where a place would go in a sorted list that lacks one of its entries.
-use Rattle.std.proofs.Common.{◌≡◌, ◌≢◌, ◌<◌, ◌≤◌, ◌+◌, ℕ, zero, suc, true, false, cond, None, List, [], ◌∷◌, get_or, length, refl, sym, ap, ◌∙◌, inl, inr, arith}
+use Rattle.std.proofs.Common.{◌≡◌, ◌≢◌, ◌<◌, ◌≤◌, ◌+◌, ℕ, zero, suc, true, false, None, List, [], ◌∷◌, get_or, length, refl, sym, ap, ◌∙◌, inl, inr, arith}
 use Rattle.std.proofs.lemmas.Bool.{true≢false, cases_Bool}
+use Rattle.std.proofs.lemmas.Bool.Decides.{nat_tests}
 use Rattle.std.proofs.lemmas.Cmp.{tied_itself, upto}
-use Rattle.std.specs.Prelude.{filter, not}
+use Rattle.std.specs.Prelude.{IsSome, nat_lt}
 use Rattle.std.specs.List.{remove}
 use Rattle.std.specs.Option.{is_some}
 use Rattle.std.specs.Ordering.{is_gt, is_lt}
 use Rattle.std.specs.declared.cmp.Ordering.{Ordering}
 use Rattle.std.specs.declared.cmp.Ordering.TheVariants.{Less, Equal, Greater}
-use Rattle.std.specs.FinMap.Entries.{find, find-where_key, is_sorted}
+use Rattle.std.specs.FinMap.Entries.{find, is_sorted}
 use Rattle.wsm_windows.specs.declared.place.Place.{Place}
 use Rattle.wsm_windows.specs.Places.{place_cmp}
 use Rattle.wsm_windows.proofs.Places.{places_exact, places_total}
 use Rattle.wsm_semantics.proofs.ManyKeys.{AreInOrder}
-use Rattle.wsm_panes.specs.Place.{before, is_other}
-use Rattle.wsm_panes.specs.Search.{IsGapFor}
-use Rattle.wsm_panes.proofs.Entries.{apart_place, at_here}
-use Rattle.wsm_panes.proofs.Sorted.{before_within, put_between}
+use Rattle.wsm_panes.specs.Place.{before}
+use Rattle.wsm_panes.specs.Search.{IsAt, IsGapFor}
+use Rattle.wsm_panes.proofs.Entries.{Decides-eq_place, at_here, eq_place}
+use Rattle.wsm_panes.proofs.Sorted.{before_within, find_absent, put_between}
 use Rattle.wsm_panes.proofs.StoredEdits.{is_found}
-use Rattle.wsm_panes.proofs.Tables.{alike}
 
 -- what is before another isn't past it
 pub not_behind : (o : Ordering) → is_lt o ≡ true → is_gt o ≡ false
@@ -69,6 +69,23 @@ module _ {X : Type 0} (q : Place) where
         puts = λ pane. sym (put_between place_cmp places_total places_exact (e ∷ es) e q pane others);
       }
 
-  -- a place that is apart from another, and not among those that are, isn't there
-  pub absent_all : (p : Place) (es : List (Place × X)) → p ≢ q → find place_cmp q (filter (λ e. is_other p e.0) es) ≡ None → find place_cmp q es ≡ None
-  absent_all p es apart absent = sym (find-where_key place_cmp (is_other p) q (alike (is_other p) q) es ∙ ap (λ b. cond (not b) (find place_cmp q es) None) (apart_place p q apart)) ∙ absent
+  -- a place other than that of the entry where the scan stops isn't there
+  pub gap_other : (es : List (Place × X)) → is_sorted place_cmp es ≡ true → ((d : Place × X) → before place_cmp q es < length es → (get_or es (before place_cmp q es) d).0 ≢ q) → IsGapFor es q (before place_cmp q es)
+  gap_other [] sorted other = gap_absent [] sorted refl
+  gap_other (e ∷ es) sorted other = gap_absent (e ∷ es) sorted (find_absent place_cmp places_total places_exact (e ∷ es) e q (rw sorted tt) (other e))
+
+  -- the scan for a place that is there stops at it
+  pub found_at : (es : List (Place × X)) → is_sorted place_cmp es ≡ true → IsSome (find place_cmp q es) → IsAt es q (before place_cmp q es)
+  found_at [] sorted some = absurd (true≢false (sym some))
+  found_at (e ∷ es) sorted some = elim (cases_Bool (nat_lt (before place_cmp q (e ∷ es)) (length (e ∷ es)))) [
+    | inl less ↦
+        let within : before place_cmp q (e ∷ es) < length (e ∷ es) = grind (arith, nat_tests) in
+        let place = (get_or (e ∷ es) (before place_cmp q (e ∷ es)) e).0 in
+        elim (cases_Bool (eq_place place q)) [
+          | inl same ↦ at_here (e ∷ es) (before place_cmp q (e ∷ es)) e q sorted within (ap (place_cmp q) ((Decides-eq_place place q).0 same) ∙ tied_itself places_total q)
+          | inr apart ↦ absurd (missing (λ inside is. true≢false (sym ((Decides-eq_place place q).1 is) ∙ apart)))
+        ]
+    | inr more ↦ absurd (missing (λ inside is. let past : length (e ∷ es) ≤ before place_cmp q (e ∷ es) = grind (arith, nat_tests) in omega (arith, inside, past)))
+  ] where
+    missing : (before place_cmp q (e ∷ es) < length (e ∷ es) → (get_or (e ∷ es) (before place_cmp q (e ∷ es)) e).0 ≢ q) → ⊥
+    missing other = true≢false (sym some ∙ ap is_some (find_absent place_cmp places_total places_exact (e ∷ es) e q (rw sorted tt) other))

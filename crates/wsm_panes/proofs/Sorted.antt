@@ -15,6 +15,11 @@ lesser Less t = refl
 lesser Equal t = absurd t
 lesser Greater t = absurd t
 
+greater : (o : Ordering) → is_gt o ≡ true → o ≡ Greater
+greater Less h = let bad : false ≡ true = h in absurd (cc)
+greater Equal h = let bad : false ≡ true = h in absurd (cc)
+greater Greater h = refl
+
 pub first_of_and : (a b : Bool) → T (a && b) → T a
 first_of_and true b t = tt
 first_of_and false b t = absurd t
@@ -124,6 +129,9 @@ module _ {K X : Type 0} (R : K → K → Ordering) where
       let past : R k e.0 ≡ Greater = past_first o e es i d k sorted (omega arith) (λ less. let bad : Less ≡ Greater = sym less ∙ more in cc) in
       let rest : i < before R k es = passes o es i d k (second_of_and (below_all R e.0 es) _ sorted) (omega arith) more in
       rw past (omega arith)
+
+  pub passes_gt : IsTotalOrder R → (es : List (K × X)) (i : ℕ) (d : K × X) (k : K) → T (is_sorted R es) → i < length es → is_gt (R k (get_or es i d).0) ≡ true → i < before R k es
+  passes_gt o es i d k sorted within more = passes o es i d k sorted within (greater (R k (get_or es i d).0) more)
 
   -- and comes to an entry at the key
   pub reaches : IsTotalOrder R → (es : List (K × X)) (i : ℕ) (d : K × X) (k : K) → T (is_sorted R es) → i < length es → R k (get_or es i d).0 ≡ Equal → i ≤ before R k es

@@ -1,9 +1,10 @@
 -- Where a search for a place ends.
-use Rattle.std.specs.Prelude.{◌≡◌, ℕ, ◌<◌, ◌≤◌, List, length, None, Some, slice_index_or, slice_set, insert}
+use Rattle.std.specs.Prelude.{◌≡◌, ℕ, ◌<◌, ◌≤◌, List, length, Option, None, Some, slice_get, slice_index_or, slice_set, insert}
 use Rattle.std.specs.FinMap.{find, put}
 use Rattle.wsm_windows.specs.declared.place.Place.{Place}
 use Rattle.wsm_windows.specs.Places.{place_cmp}
 use Rattle.wsm_panes.specs.Place.{before}
+use Rattle.wsm_panes.specs.Stored.{listed, shown}
 
 -- the entry at i is at the place: a look-up finds its pane, and setting the place writes over it
 pub record IsAt {P : Type 0} (es : List (Place × P)) (place : Place) (i : ℕ) : Type 0 where
@@ -19,3 +20,10 @@ pub record IsGapFor {P : Type 0} (es : List (Place × P)) (place : Place) (i : �
   pub stops : i ≡ before place_cmp place es
   pub absent : find place_cmp place es ≡ None
   pub puts : (pane : P) → put place_cmp place pane es ≡ insert es i (place, pane)
+
+-- the slot of the entry at the place, which is in the row once
+pub record IsSlotOf {P : Type 0} (slots : List (Option (Place × P))) (row : List ℕ) (place : Place) (slot : ℕ) : Type 0 where
+  pub number : ℕ
+  pub here : slice_get row number ≡ Some slot
+  pub once : listed slot row ≡ 1
+  pub is : IsAt (shown slots row) place number

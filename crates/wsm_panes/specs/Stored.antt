@@ -1,5 +1,5 @@
 -- Entries in slots: those of a row in their order, and the slots that are free.
-use Rattle.std.specs.Prelude.{◌≡◌, ℕ, ◌+◌, List, [], ◌∷◌, length, true, Option, Some, None, if◌then◌else◌, nat_eq, nat_lt}
+use Rattle.std.specs.Prelude.{◌≡◌, ◌≤◌, ℕ, ◌+◌, List, [], ◌∷◌, length, true, Option, Some, None, if◌then◌else◌, nat_eq, nat_lt}
 use Rattle.std.specs.FinMap as map
 use Rattle.std.specs.Option.{is_some}
 use Rattle.wsm_windows.specs.declared.place.Place.{Place}
@@ -34,6 +34,16 @@ same r s = if nat_eq r s then 1 else 0
 abbrev pub listed : ℕ → List ℕ → ℕ
 listed s [] = 0
 listed s (r ∷ rs) = same r s + listed s rs
+
+-- each slot that has an entry is in the row, once
+abbrev pub AreListed : {X : Type 0} → List (Option X) → List ℕ → Type 0
+AreListed slots row = (s : ℕ) → is_some (slot_at slots s) ≡ true → listed s row ≡ 1
+
+-- slots are free afterwards, and the others are as they were
+pub record AreFreed {X : Type 0} (freed : List ℕ) (old new : List (Option X)) : Type 0 where
+  pub gone : (s : ℕ) → 1 ≤ listed s freed → slot_at new s ≡ None
+  pub others : (s : ℕ) → listed s freed ≡ 0 → slot_at new s ≡ slot_at old s
+  pub count : length new ≡ length old
 
 -- slots in a row, and how many there are with the free ones
 pub record Taken : Type 0 where

@@ -59,7 +59,9 @@ pub(crate) fn enter_session(
             (entry.session, false)
         }
         Linked::One(window) => {
-            table.enter_moved(Place::at(key, window), place, kinds, values);
+            let guess = sessions.noted();
+            let slot = table.enter_moved(guess, Place::at(key, window), place, kinds, values);
+            sessions.note(slot);
             (entry.session, false)
         }
         Linked::Two(first, second) => {

@@ -1,7 +1,8 @@
 //! A table kept as a sorted list.
 
-ghost use Rattle.std.specs.Prelude.{◌≡◌, ◌≢◌, ◌⊎◌, ◌<◌, ◌≤◌, ◌^◌, List, None, Some, IfOk, IfErr, IfSome, IsSome, IsTrue, drop, filter, length, not, option_map, slice_get};
+ghost use Rattle.std.specs.Prelude.{◌≡◌, ◌⊎◌, ◌<◌, ◌≤◌, ◌^◌, List, None, Some, IfOk, IfErr, IfSome, IsSome, IsTrue, drop, filter, length, not, option_map, slice_get, take};
 ghost use Rattle.std.specs.FinMap as map;
+ghost use Rattle.std.specs.Ordering.{is_gt};
 ghost use Rattle.wsm_fold.specs.Fold.{are_of_kinds};
 ghost use Rattle.wsm_record.specs.declared.event.Value.{Value as OneValue};
 ghost use Rattle.wsm_record.specs.declared.limits.TheConstants.{MAX_ACCUMULATORS, MAX_COLUMNS};
@@ -10,14 +11,15 @@ ghost use Rattle.wsm_windows.specs.Places.{place_cmp};
 ghost use Rattle.wsm_semantics.specs.Summaries.{Pane as AnyPane};
 ghost use Rattle.wsm_panes.specs.Held.{CanRecord, with_one_more, FiresAt, recorded_at, recorded_from};
 ghost use Rattle.wsm_panes.specs.Layout.{IsAsWide};
-ghost use Rattle.wsm_panes.specs.Place.{is_kept, is_other};
-ghost use Rattle.wsm_panes.specs.Search.{IsAt, IsGapFor};
-ghost use Rattle.wsm_panes.specs.Stored.{AreStored, shown};
+ghost use Rattle.wsm_panes.specs.Place.{before, is_kept, is_other};
+ghost use Rattle.wsm_panes.specs.Search.{IsAt, IsGapFor, IsSlotOf};
+ghost use Rattle.wsm_panes.specs.Stored.{AreFreed, AreIn, AreListed, AreStored, shown};
 ghost use Rattle.wsm_panes.specs.Walk.{first_past, place_due, place_found};
 
 use crate::layout::Slots;
 use crate::pane::Pane;
 use crate::slot_row::SlotRow;
+use crate::slots::is_at;
 use crate::spot::{Spot, due};
 use crate::table::PaneTable;
 use crate::view::PaneView;
@@ -86,8 +88,15 @@ impl ListTable {
     }
 
     /// Puts a record into the pane at a place, which goes to another place then. The pane stays in its
-    /// slot.
-    pub(crate) fn enter_moved(&mut self, from: Place, to: Place, kinds: &[Kind], values: &[Value])
+    /// slot, which is told. A slot that is guessed is looked at first.
+    pub(crate) fn enter_moved(
+        &mut self,
+        guess: usize,
+        from: Place,
+        to: Place,
+        kinds: &[Kind],
+        values: &[Value],
+    ) -> usize
         requires wide { length values.now ≡ self.old.widths.accumulators }
         requires types { IsTrue (are_of_kinds kinds.now values.now) }
         requires there { IsSome (map.get self.old.panes from) }
@@ -98,9 +107,9 @@ impl ListTable {
         ensures widths { self.new.widths ≡ self.old.widths }
     {
         if from == to {
-            self.enter(to, kinds, values);
+            record_at(&self.row, &mut self.slots, guess, to, kinds, values)
         } else {
-            move_in(&mut self.row, &mut self.slots, from, to, kinds, values);
+            move_in(&mut self.row, &mut self.slots, from, to, kinds, values)
         }
     }
 
@@ -149,11 +158,12 @@ impl PaneTable<Pane> for ListTable {
     }
 
     fn remove(&mut self, place: Place) {
-        take_out(&mut self.row, &self.slots, place);
+        take_out(&mut self.row, &mut self.slots, place);
     }
 
     fn drop_expired(&mut self, limit: i64) {
-        self.row.drop_first(ended(&self.row, &self.slots, limit));
+        let count = ended(&self.row, &self.slots, limit);
+        drop_first(&mut self.row, &mut self.slots, count);
     }
 
     fn len(&self) -> usize {
@@ -270,28 +280,59 @@ fn search(row: &SlotRow, slots: &Slots, place: Place) -> Result<usize, usize>
     ensures within { IfOk result (λ i. i < length row.now.row) }
     ensures until { IfErr result (λ i. i ≤ length row.now.row) }
 {
-    let mut low = 0;
-    let mut high = row.len();
-    while low < high {
-        let middle = low + (high - low) / 2;
-        let other = place_at(row, slots, middle);
-        match place.cmp(&other) {
-            Ordering::Less => high = middle,
-            Ordering::Equal => return Ok(middle),
-            Ordering::Greater => low = middle + 1,
-        }
+    let at = count_before(row, slots, place);
+    if at == row.len() {
+        Err(at)
+    } else if place_at(row, slots, at) == place {
+        Ok(at)
+    } else {
+        Err(at)
     }
-    Err(low)
+}
+
+// How many entries stand before a place. In which half it is can't be foretold, so no branch is taken
+// by it.
+fn count_before(row: &SlotRow, slots: &Slots, place: Place) -> usize
+    requires { AreStored slots.now.slots row.now.row }
+    ensures count { result ≡ before place_cmp place (shown slots.now.slots row.now.row) }
+    ensures within { result ≤ length row.now.row }
+{
+    let mut low = 0;
+    let mut size = row.len();
+    while size > 1 {
+        let half = size / 2;
+        if is_before(place_at(row, slots, low + half - 1), place) {
+            low += half;
+        }
+        size -= half;
+    }
+    if size > 0 && is_before(place_at(row, slots, low), place) {
+        low + 1
+    } else {
+        low
+    }
+}
+
+// Whether a place stands before another. All parts are compared, so that no branch is taken.
+fn is_before(place: Place, other: Place) -> bool
+    ensures { result ≡ is_gt (place_cmp other place) }
+{
+    (place.end < other.end)
+        | ((place.end == other.end)
+            & ((place.start < other.start)
+                | ((place.start == other.start) & (place.key < other.key))))
 }
 
 // Sets the pane at a place.
 fn put_in(row: &mut SlotRow, slots: &mut Slots, place: Place, pane: &Pane)
     requires stored { AreStored slots.old.slots row.old.row }
+    requires listed { AreListed slots.old.slots row.old.row }
     requires numbers { row.old.room ≡ length slots.old.slots }
     requires room { (IsSome (map.find place_cmp place (shown slots.old.slots row.old.row))) ⊎ (length row.old.row < row.old.room) }
     requires wide { IsAsWide slots.old.widths pane.now }
     ensures shown { shown slots.new.slots row.new.row ≡ map.put place_cmp place pane.now (shown slots.old.slots row.old.row) }
     ensures stored { AreStored slots.new.slots row.new.row }
+    ensures listed { AreListed slots.new.slots row.new.row }
     ensures room { (row.new.room ≡ row.old.room) × (length slots.new.slots ≡ length slots.old.slots) }
     ensures widths { slots.new.widths ≡ slots.old.widths }
 {
@@ -304,6 +345,7 @@ fn put_in(row: &mut SlotRow, slots: &mut Slots, place: Place, pane: &Pane)
 // Puts a record into the pane at a place, and makes a pane of it where none is.
 fn enter_in(row: &mut SlotRow, slots: &mut Slots, place: Place, kinds: &[Kind], values: &[Value])
     requires stored { AreStored slots.old.slots row.old.row }
+    requires listed { AreListed slots.old.slots row.old.row }
     requires numbers { row.old.room ≡ length slots.old.slots }
     requires room { (IsSome (map.find place_cmp place (shown slots.old.slots row.old.row))) ⊎ (length row.old.row < row.old.room) }
     requires wide { length values.now ≡ slots.old.widths.accumulators }
@@ -311,6 +353,7 @@ fn enter_in(row: &mut SlotRow, slots: &mut Slots, place: Place, kinds: &[Kind], 
     requires takes { IfSome (map.find place_cmp place (shown slots.old.slots row.old.row)) (CanRecord kinds.now values.now) }
     ensures shown { shown slots.new.slots row.new.row ≡ recorded_at kinds.now values.now place (shown slots.old.slots row.old.row) }
     ensures stored { AreStored slots.new.slots row.new.row }
+    ensures listed { AreListed slots.new.slots row.new.row }
     ensures room { (row.new.room ≡ row.old.room) × (length slots.new.slots ≡ length slots.old.slots) }
     ensures widths { slots.new.widths ≡ slots.old.widths }
 {
@@ -320,8 +363,49 @@ fn enter_in(row: &mut SlotRow, slots: &mut Slots, place: Place, kinds: &[Kind], 
     }
 }
 
-// Puts a record into the pane at a place, which goes to another place then. Its slot stands elsewhere in
-// the row then.
+// Puts a record into the pane at a place, which is there, and tells its slot. One that is guessed is
+// looked at first.
+fn record_at(
+    row: &SlotRow,
+    slots: &mut Slots,
+    guess: usize,
+    place: Place,
+    kinds: &[Kind],
+    values: &[Value],
+) -> usize
+    requires stored { AreStored slots.old.slots row.now.row }
+    requires listed { AreListed slots.old.slots row.now.row }
+    requires wide { length values.now ≡ slots.old.widths.accumulators }
+    requires types { IsTrue (are_of_kinds kinds.now values.now) }
+    requires there { IsSome (map.find place_cmp place (shown slots.old.slots row.now.row)) }
+    requires takes { IfSome (map.find place_cmp place (shown slots.old.slots row.now.row)) (CanRecord kinds.now values.now) }
+    ensures shown { shown slots.new.slots row.now.row ≡ recorded_at kinds.now values.now place (shown slots.old.slots row.now.row) }
+    ensures stored { AreStored slots.new.slots row.now.row }
+    ensures listed { AreListed slots.new.slots row.now.row }
+    ensures room { length slots.new.slots ≡ length slots.old.slots }
+    ensures widths { slots.new.widths ≡ slots.old.widths }
+{
+    let slot = slot_of(row, slots, guess, place);
+    slots.record(slot, kinds, values);
+    slot
+}
+
+// The slot of the pane at a place, which is there. One that is guessed is looked at first.
+fn slot_of(row: &SlotRow, slots: &Slots, guess: usize, place: Place) -> usize
+    requires stored { AreStored slots.now.slots row.now.row }
+    requires listed { AreListed slots.now.slots row.now.row }
+    requires there { IsSome (map.find place_cmp place (shown slots.now.slots row.now.row)) }
+    ensures { IsSlotOf slots.now.slots row.now.row place result }
+{
+    if is_at(slots, guess, place) {
+        guess
+    } else {
+        row.get(count_before(row, slots, place))
+    }
+}
+
+// Puts a record into the pane at a place, which goes to another place then, and tells its slot, which
+// stands elsewhere in the row then.
 fn move_in(
     row: &mut SlotRow,
     slots: &mut Slots,
@@ -329,49 +413,69 @@ fn move_in(
     to: Place,
     kinds: &[Kind],
     values: &[Value],
-)
+) -> usize
     requires stored { AreStored slots.old.slots row.old.row }
+    requires listed { AreListed slots.old.slots row.old.row }
     requires numbers { row.old.room ≡ length slots.old.slots }
     requires wide { length values.now ≡ slots.old.widths.accumulators }
     requires types { IsTrue (are_of_kinds kinds.now values.now) }
     requires there { IsSome (map.find place_cmp from (shown slots.old.slots row.old.row)) }
     requires takes { IfSome (map.find place_cmp from (shown slots.old.slots row.old.row)) (CanRecord kinds.now values.now) }
-    requires other { from ≢ to }
     requires absent { map.find place_cmp to (filter (λ e. is_other from e.0) (shown slots.old.slots row.old.row)) ≡ None }
     ensures shown { shown slots.new.slots row.new.row ≡ recorded_from kinds.now values.now from to (shown slots.old.slots row.old.row) }
     ensures stored { AreStored slots.new.slots row.new.row }
+    ensures listed { AreListed slots.new.slots row.new.row }
     ensures room { (row.new.room ≡ row.old.room) × (length slots.new.slots ≡ length slots.old.slots) }
     ensures widths { slots.new.widths ≡ slots.old.widths }
 {
-    let old = search(row, slots, from).unwrap();
-    let gap = gap_for(row, slots, to);
+    let old = count_before(row, slots, from);
+    let gap = count_before(row, slots, to);
     let new = if old < gap { gap - 1 } else { gap };
     let slot = row.shift(old, new);
     slots.record(slot, kinds, values);
     slots.move_to(slot, to);
-}
-
-// Where the entry of a place that isn't there would go.
-fn gap_for(row: &SlotRow, slots: &Slots, place: Place) -> usize
-    requires stored { AreStored slots.now.slots row.now.row }
-    requires absent { map.find place_cmp place (shown slots.now.slots row.now.row) ≡ None }
-    ensures gap { IsGapFor (shown slots.now.slots row.now.row) place result }
-    ensures until { result ≤ length row.now.row }
-{
-    match search(row, slots, place) {
-        Ok(at) => at,
-        Err(at) => at,
-    }
+    slot
 }
 
 // Takes the slot of a place out of the row, if one is there.
-fn take_out(row: &mut SlotRow, slots: &Slots, place: Place)
-    requires { AreStored slots.now.slots row.old.row }
-    ensures shown { shown slots.now.slots row.new.row ≡ filter (λ e. is_other place e.0) (shown slots.now.slots row.old.row) }
-    ensures stored { AreStored slots.now.slots row.new.row }
-    ensures room { row.new.room ≡ row.old.room }
+fn take_out(row: &mut SlotRow, slots: &mut Slots, place: Place)
+    requires stored { AreStored slots.old.slots row.old.row }
+    requires listed { AreListed slots.old.slots row.old.row }
+    ensures shown { shown slots.new.slots row.new.row ≡ filter (λ e. is_other place e.0) (shown slots.old.slots row.old.row) }
+    ensures stored { AreStored slots.new.slots row.new.row }
+    ensures listed { AreListed slots.new.slots row.new.row }
+    ensures room { (row.new.room ≡ row.old.room) × (length slots.new.slots ≡ length slots.old.slots) }
+    ensures widths { slots.new.widths ≡ slots.old.widths }
 {
     if let Ok(i) = search(row, slots, place) {
+        slots.clear(row.get(i));
         row.remove(i);
+    }
+}
+
+// Drops the first entries, so many.
+fn drop_first(row: &mut SlotRow, slots: &mut Slots, count: usize)
+    requires stored { AreStored slots.old.slots row.old.row }
+    requires listed { AreListed slots.old.slots row.old.row }
+    requires within { count ≤ length row.old.row }
+    ensures shown { shown slots.new.slots row.new.row ≡ shown slots.old.slots (drop count row.old.row) }
+    ensures there { AreIn slots.new.slots row.new.row }
+    ensures listed { AreListed slots.new.slots row.new.row }
+    ensures room { (row.new.room ≡ row.old.room) × (length slots.new.slots ≡ length slots.old.slots) }
+    ensures widths { slots.new.widths ≡ slots.old.widths }
+{
+    clear_first(row, slots, count);
+    row.drop_first(count);
+}
+
+// Has the first slots of a row be free, so many.
+fn clear_first(row: &SlotRow, slots: &mut Slots, count: usize)
+    requires there { AreIn slots.old.slots row.now.row }
+    requires within { count ≤ length row.now.row }
+    ensures cleared { AreFreed (take count row.now.row) slots.old.slots slots.new.slots }
+    ensures widths { slots.new.widths ≡ slots.old.widths }
+{
+    for i in 0..count {
+        slots.clear(row.get(i));
     }
 }

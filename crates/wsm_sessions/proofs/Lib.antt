@@ -1,3 +1,4 @@
+pub mod Ended
 pub mod Seams
 pub mod SessionEdits
 pub mod Classes

@@ -1,5 +1,5 @@
 -- What a time does to sessions.
-use Rattle.std.specs.Prelude.{◌≡◌, ◌⊎◌, ◌+◌, ◌≤◌, ℕ, zero, suc, Bool, false, ◌||◌, List, [], ◌∷◌, length, filter, ℤ, int_lt, nat_lt}
+use Rattle.std.specs.Prelude.{◌≡◌, ◌⊎◌, ◌+◌, ◌≤◌, ℕ, zero, suc, Bool, true, false, ◌||◌, List, [], ◌∷◌, length, filter, ℤ, int_lt, nat_lt}
 use Rattle.std.specs.List.{list_any}
 use Rattle.wsm_windows.specs.declared.window.Window.{Window}
 use Rattle.wsm_windows.specs.Windows.{window}
@@ -50,6 +50,13 @@ starts_before t (w ∷ ws) (suc i) = starts_before t ws i
 abbrev pub first_ends_by : ℤ → List Window → Bool
 first_ends_by t [] = false
 first_ends_by t (w ∷ ws) = ends_by t w
+
+-- the window in front of a place, if there is one, ends by a time
+abbrev pub is_ended_at : ℤ → List Window → ℕ → Bool
+is_ended_at t ws zero = true
+is_ended_at t [] (suc i) = true
+is_ended_at t (w ∷ ws) (suc zero) = ends_by t w
+is_ended_at t (w ∷ ws) (suc (suc i)) = is_ended_at t ws (suc i)
 
 -- the windows at a place and at the next put together
 abbrev pub joined_at : List Window → ℕ → List Window

@@ -1,6 +1,6 @@
 //! Which sessions a time is linked to, and what windows come of it.
 
-ghost use Rattle.std.specs.Prelude.{◌≡◌, ◌≤◌, ◌+ℤ◌, ◌≤ℤ◌, pos, int_lt, length, filter};
+ghost use Rattle.std.specs.Prelude.{◌≡◌, ◌≤◌, ◌+ℤ◌, ◌≤ℤ◌, pos, int_le, int_lt, length, filter};
 ghost use Rattle.std.specs.Int.{int_max, int_min};
 ghost use Rattle.std.specs.List.Sorted.{IsPartitionedBy};
 ghost use Rattle.wsm_windows.specs.Windows.{IsTime, window, greatest_span};
@@ -82,13 +82,35 @@ pub(crate) fn joined(session: Window, next: Window) -> Window
     }
 }
 
-// How many windows end by a time, where those come first.
+// How many windows end by a time, where those come first. Mostly they are all, or all but the newest.
 fn ended_by(windows: &[Window], time: i64) -> usize
     requires { IsPartitionedBy (ends_by time) windows.now }
     ensures count { result ≡ length (filter (ends_by time) windows.now) }
     ensures within { result ≤ length windows.now }
 {
-    windows.partition_point(|w| w.end <= time)
+    let count = windows.len();
+    if is_ended_at(windows, count, time) {
+        count
+    } else if is_ended_at(windows, count - 1, time) {
+        count - 1
+    } else {
+        windows.partition_point(|w| w.end <= time)
+    }
+}
+
+// Whether the window in front of a place ends by a time, if there is one.
+fn is_ended_at(windows: &[Window], place: usize, time: i64) -> bool
+    requires { place ≤ length windows.now }
+    ensures { result ≡ spec.is_ended_at time windows.now place }
+{
+    place == 0 || ends_by(windows[place - 1], time)
+}
+
+// Whether a window ends by a time.
+fn ends_by(window: Window, time: i64) -> bool
+    ensures { result ≡ int_le window.end time }
+{
+    window.end <= time
 }
 
 // Whether there is a window at a place, and it starts before a time.

@@ -23,6 +23,8 @@ pub struct Sessions {
     gap: i64,
     room: usize,
     windows: Vec<Window>,
+    // What was noted last.
+    note: usize,
 }
 
 impl Model for Sessions {
@@ -54,7 +56,20 @@ impl Sessions {
             gap,
             room,
             windows: Vec::with_capacity(alloc, room)?,
+            note: 0,
         })
+    }
+
+    /// The number that was noted last, or 0. A clause doesn't see it, so it is a guess.
+    pub fn noted(&self) -> usize {
+        self.note
+    }
+
+    /// Notes a number, as where the caller keeps what belongs to the session of the last time.
+    pub fn note(&mut self, number: usize)
+        ensures { self.new ≡ self.old }
+    {
+        self.note = number;
     }
 
     /// Whether a time can be placed: room is left, or it is linked to a session.

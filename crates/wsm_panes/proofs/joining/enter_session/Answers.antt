@@ -104,25 +104,25 @@ returns-in-None-clause-others c k other =
 one : (c : After-at-place) (w : Window) → c.enter-entry.result.linked ≡ linked_to.One w → w ∷ [] ≡ filter (links c.args.sessions.now.gap c.args.time) c.args.sessions.now.windows
 one c w is = ap those_linked (sym is) ∙ linked_are c
 
-pub enter_moved-requires-clause-there : goal.enter_moved-requires-clause-there
-enter_moved-requires-clause-there c =
-    let s = (goal.at.enter_moved-requires-clause-there c).After-at-place in
+pub enter_moved-slot-requires-clause-there : goal.enter_moved-slot-requires-clause-there
+enter_moved-slot-requires-clause-there c =
+    let s = (goal.at.enter_moved-slot-requires-clause-there c).After-at-place in
     one_there c.args.kinds.now c.args.values.now c.args.sessions.now.gap c.requires.gap c.args.key c.args.time c.args.table.now.panes c.args.sessions.now.windows c.requires.agree c.at-place.result (place_is s) c.in-One.window (one s c.in-One.window c.in-One.is) c.at.result c.at.ensures
 
-pub enter_moved-requires-clause-takes : goal.enter_moved-requires-clause-takes
-enter_moved-requires-clause-takes c =
-    let s = (goal.at.enter_moved-requires-clause-takes c).After-at-place in
+pub enter_moved-slot-requires-clause-takes : goal.enter_moved-slot-requires-clause-takes
+enter_moved-slot-requires-clause-takes c =
+    let s = (goal.at.enter_moved-slot-requires-clause-takes c).After-at-place in
     one_takes c.args.kinds.now c.args.values.now c.args.sessions.now.gap c.requires.gap c.args.key c.args.time c.args.table.now.panes c.args.sessions.now.windows c.requires.agree c.at-place.result (place_is s) c.in-One.window (one s c.in-One.window c.in-One.is) c.at.result c.at.ensures c.requires.joins
 
-pub enter_moved-requires-clause-absent : goal.enter_moved-requires-clause-absent
-enter_moved-requires-clause-absent c =
-    let s = (goal.at.enter_moved-requires-clause-absent c).After-at-place in
+pub enter_moved-slot-requires-clause-absent : goal.enter_moved-slot-requires-clause-absent
+enter_moved-slot-requires-clause-absent c =
+    let s = (goal.at.enter_moved-slot-requires-clause-absent c).After-at-place in
     one_absent c.args.kinds.now c.args.values.now c.args.sessions.now.gap c.requires.gap c.args.key c.args.time c.args.table.now.panes c.args.sessions.now.windows c.requires.agree c.at-place.result (place_is s) c.in-One.window (one s c.in-One.window c.in-One.is) c.at.result c.at.ensures
 
 pub returns-in-One-clause-panes : goal.returns-in-One-clause-panes
 returns-in-One-clause-panes c =
     let s = (goal.at.returns-in-One-clause-panes c).After-at-place in
-    entries_are s _ _ _ _ (one_puts c.args.kinds.now c.args.values.now c.args.sessions.now.gap c.requires.gap c.args.key c.args.time c.args.table.now.panes c.args.sessions.now.windows c.requires.agree c.at-place.result (place_is s) c.in-One.window (one s c.in-One.window c.in-One.is) c.at.result c.at.ensures) c.enter_moved.ensures.panes
+    entries_are s _ _ _ _ (one_puts c.args.kinds.now c.args.values.now c.args.sessions.now.gap c.requires.gap c.args.key c.args.time c.args.table.now.panes c.args.sessions.now.windows c.requires.agree c.at-place.result (place_is s) c.in-One.window (one s c.in-One.window c.in-One.is) c.at.result c.at.ensures) c.enter_moved-slot.ensures.panes
 
 pub returns-in-One-clause-session : goal.returns-in-One-clause-session
 returns-in-One-clause-session c = session_is (goal.at.returns-in-One-clause-session c).After-at-place
@@ -135,12 +135,12 @@ returns-in-One-clause-joined c =
 pub returns-in-One-clause-agree : goal.returns-in-One-clause-agree
 returns-in-One-clause-agree c =
     let s = (goal.at.returns-in-One-clause-agree c).After-at-place in
-    agrees s _ _ _ _ (one_puts c.args.kinds.now c.args.values.now c.args.sessions.now.gap c.requires.gap c.args.key c.args.time c.args.table.now.panes c.args.sessions.now.windows c.requires.agree c.at-place.result (place_is s) c.in-One.window (one s c.in-One.window c.in-One.is) c.at.result c.at.ensures) c.enter_moved.ensures.panes
+    agrees s _ _ _ _ (one_puts c.args.kinds.now c.args.values.now c.args.sessions.now.gap c.requires.gap c.args.key c.args.time c.args.table.now.panes c.args.sessions.now.windows c.requires.agree c.at-place.result (place_is s) c.in-One.window (one s c.in-One.window c.in-One.is) c.at.result c.at.ensures) c.enter_moved-slot.ensures.panes ∙ ap (λ s. s.windows) (sym c.note.ensures)
 
 pub returns-in-One-clause-others : goal.returns-in-One-clause-others
 returns-in-One-clause-others c k other =
     let s = (goal.at.returns-in-One-clause-others c).After-at-place in
-    others_stay s _ _ _ _ (one_puts c.args.kinds.now c.args.values.now c.args.sessions.now.gap c.requires.gap c.args.key c.args.time c.args.table.now.panes c.args.sessions.now.windows c.requires.agree c.at-place.result (place_is s) c.in-One.window (one s c.in-One.window c.in-One.is) c.at.result c.at.ensures) c.enter_moved.ensures.panes k other
+    others_stay s _ _ _ _ (one_puts c.args.kinds.now c.args.values.now c.args.sessions.now.gap c.requires.gap c.args.key c.args.time c.args.table.now.panes c.args.sessions.now.windows c.requires.agree c.at-place.result (place_is s) c.in-One.window (one s c.in-One.window c.in-One.is) c.at.result c.at.ensures) c.enter_moved-slot.ensures.panes k other
 
 -- ---- it is linked to two
 

@@ -10,6 +10,7 @@ use Rattle.wsm_windows.specs.Places.{place_cmp}
 use Rattle.wsm_semantics.specs.Summaries.{Pane}
 use Rattle.wsm_panes.specs.Held.{CanRecord, with_one_more}
 use Rattle.wsm_panes.specs.Stored.{shown}
+use Rattle.wsm_panes.proofs.Listed.{added_listed, set_listed}
 use Rattle.wsm_panes.proofs.StoredEdits.{added_shows, added_stored, has_entry, own_entry, set_shows, set_stored, slot_there}
 use Rattle.wsm_panes.proofs.list.enter_in.Goals as goal
 
@@ -44,6 +45,7 @@ returns-in-Ok c =
           rw new (set_shows _ _ stored i k at c.args.place c.in-Ok.ensures.found v (slot_there _ _ stored i k at) c.get.ensures.once)
           ∙ ap (λ o. put place_cmp c.args.place (with_one_more c.args.kinds.now c.args.values.now o) (shown os c.args.row.now.row)) (sym own.1.1);
       stored = rw new (set_stored _ _ stored i k at c.args.place c.in-Ok.ensures.found v (slot_there _ _ stored i k at) c.get.ensures.once);
+      listed = rw new (set_listed os c.args.row.now.row k (c.args.place, v) c.get.ensures.once c.requires.listed);
       room = (refl, ap length new ∙ length-set os k (Some (c.args.place, v)));
       widths = ap (λ s. s.widths) c.record.ensures;
     }
@@ -60,6 +62,7 @@ returns-in-Err c =
           rw (new, c.insert.ensures.row) (added_shows _ _ c.requires.stored c.in-Err.i k c.args.place c.in-Err.ensures.absent v within c.in-Err.ensures.until c.insert.ensures.fresh)
           ∙ ap (λ o. put place_cmp c.args.place (with_one_more c.args.kinds.now c.args.values.now o) (shown os c.args.row.now.row)) (sym c.in-Err.ensures.absent.absent);
       stored = rw (new, c.insert.ensures.row) (added_stored _ _ c.requires.stored c.in-Err.i k c.args.place c.in-Err.ensures.absent v within c.in-Err.ensures.until c.insert.ensures.fresh);
+      listed = rw (new, c.insert.ensures.row) (added_listed os c.args.row.now.row c.in-Err.i k (c.args.place, v) c.in-Err.ensures.until c.insert.ensures.fresh c.requires.listed);
       room = (c.insert.ensures.room, ap length new ∙ length-set os k (Some (c.args.place, v)));
       widths = ap (λ s. s.widths) (c.start.ensures c.args.kinds.now);
     }

@@ -2,6 +2,7 @@ use Rattle.std.proofs.Common.{◌≡◌, ◌<◌, ◌∙◌, Some, ap, refl, sym
 use Rattle.std.proofs.lemmas.Bool.{true≢false}
 use Rattle.std.proofs.lemmas.List.{length-set}
 use Rattle.std.specs.Option.{is_some}
+use Rattle.wsm_panes.proofs.Listed.{added_listed, set_listed}
 use Rattle.wsm_panes.proofs.StoredEdits.{added_shows, added_stored, set_shows, set_stored, slot_there}
 use Rattle.wsm_panes.proofs.list.put_in.Goals as goal
 
@@ -25,6 +26,7 @@ returns-in-Ok c =
     record {
       shown = rw new (set_shows _ _ stored i k at c.args.place c.in-Ok.ensures.found c.args.pane.now (slot_there _ _ stored i k at) c.get.ensures.once);
       stored = rw new (set_stored _ _ stored i k at c.args.place c.in-Ok.ensures.found c.args.pane.now (slot_there _ _ stored i k at) c.get.ensures.once);
+      listed = rw new (set_listed os c.args.row.now.row k (c.args.place, c.args.pane.now) c.get.ensures.once c.requires.listed);
       room = (refl, ap length new ∙ length-set os k (Some (c.args.place, c.args.pane.now)));
       widths = ap (λ s. s.widths) c.put.ensures;
     }
@@ -38,6 +40,7 @@ returns-in-Err c =
     record {
       shown = rw (new, c.insert.ensures.row) (added_shows _ _ c.requires.stored c.in-Err.i k c.args.place c.in-Err.ensures.absent c.args.pane.now within c.in-Err.ensures.until c.insert.ensures.fresh);
       stored = rw (new, c.insert.ensures.row) (added_stored _ _ c.requires.stored c.in-Err.i k c.args.place c.in-Err.ensures.absent c.args.pane.now within c.in-Err.ensures.until c.insert.ensures.fresh);
+      listed = rw (new, c.insert.ensures.row) (added_listed os c.args.row.now.row c.in-Err.i k (c.args.place, c.args.pane.now) c.in-Err.ensures.until c.insert.ensures.fresh c.requires.listed);
       room = (c.insert.ensures.room, ap length new ∙ length-set os k (Some (c.args.place, c.args.pane.now)));
       widths = ap (λ s. s.widths) c.put-in-Err.ensures;
     }

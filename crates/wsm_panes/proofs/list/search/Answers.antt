@@ -1,64 +1,36 @@
-use Rattle.std.proofs.Common.{◌≡◌, ◌<◌, ◌+◌, ◌-◌, ◌/◌, length, sym, ap, ◌∙◌, arith}
-use Rattle.std.specs.Ordering.{is_gt}
+use Rattle.std.proofs.Common.{◌≡◌, ◌≢◌, ◌<◌, ap, get_or, length, sym, subst, ◌∙◌, arith}
+use Rattle.std.proofs.lemmas.Bool.{true≢false}
+use Rattle.std.proofs.lemmas.Cmp.{tied_itself}
 use Rattle.wsm_windows.specs.Places.{place_cmp}
 use Rattle.wsm_windows.proofs.Places.{places_total}
-use Rattle.wsm_panes.specs.Place.{before}
+use Rattle.wsm_panes.specs.Search.{IsGapFor}
 use Rattle.wsm_panes.specs.Stored.{shown}
-use Rattle.wsm_panes.proofs.Sorted.{passes, stops, before_within}
-use Rattle.wsm_panes.proofs.Entries.{gap_any}
-use Rattle.wsm_panes.proofs.StoredEdits.{at_place, entry_there, length_is, place_there}
+use Rattle.wsm_panes.proofs.Entries.{Decides-eq_place}
+use Rattle.wsm_panes.proofs.Gaps.{gap_other}
+use Rattle.wsm_panes.proofs.StoredEdits.{at_place, length_is, place_there}
 use Rattle.wsm_panes.proofs.list.search.Goals as goal
 
-pub loop-low-init : goal.loop-low-init
-loop-low-init c =
+-- all stand before it
+pub returns-then-at-len-clause-absent : goal.returns-then-at-len-clause-absent
+returns-then-at-len-clause-absent c =
     let es = shown c.args.slots.now.slots c.args.row.now.row in
+    let here = c.count_before-at.ensures.count in
     let long = length_is _ _ c.requires in
-    record {
-      low = omega arith;
-      high = omega (arith, before_within place_cmp es c.args.place, long, c.len-high.ensures);
-      within = omega (arith, c.len-high.ensures);
-      behind = λ d h. absurd (omega (arith, h, long, c.len-high.ensures));
-    }
+    subst (IsGapFor es c.args.place) (sym here) (gap_other c.args.place es c.requires.sorted (λ d within is. omega (arith, within, here, long, c.len.ensures, c.if-at-len.true)))
 
-pub loop-low-preserved-in-Less : goal.loop-low-preserved-in-Less
-loop-low-preserved-in-Less c =
+pub returns-then-eq-clause-found : goal.returns-then-eq-clause-found
+returns-then-eq-clause-found c =
     let es = shown c.args.slots.now.slots c.args.row.now.row in
-    let middle = c.loop-low.low + (c.loop-low.high - c.loop-low.low) / 2 in
-    let within : middle < length c.args.row.now.row = omega (arith, c.loop-low.invariant.within) in
-    let long = length_is _ _ c.requires in
-    let less = sym c.cmp.ensures ∙ c.in-Less.is in
-    let e = entry_there _ _ c.requires middle within in
-    record {
-      low = c.loop-low.invariant.low;
-      high = stops place_cmp es middle e c.args.place (omega (arith, within, long)) (ap is_gt (ap (place_cmp c.args.place) (place_there _ _ c.requires middle _ e within c.place_at-other.ensures) ∙ less));
-      within = omega (arith, within);
-      behind = λ d h. ap (place_cmp c.args.place) (place_there _ _ c.requires middle _ d within c.place_at-other.ensures) ∙ less;
-    }
+    let at = c.count_before-at.result in
+    let within : at < length c.args.row.now.row = omega (arith, c.count_before-at.ensures.within, c.len.ensures, c.if-at-len.false) in
+    let same : c.place_at.result ≡ c.args.place = (Decides-eq_place c.place_at.result c.args.place).0 (sym c.eq.ensures ∙ c.if-eq.true) in
+    at_place _ _ c.requires at c.place_at.result c.args.place within c.place_at.ensures (ap (place_cmp c.args.place) same ∙ tied_itself places_total c.args.place)
 
-pub returns-in-Equal-clause-found : goal.returns-in-Equal-clause-found
-returns-in-Equal-clause-found c =
-    let middle = c.loop-low.low + (c.loop-low.high - c.loop-low.low) / 2 in
-    let within : middle < length c.args.row.now.row = omega (arith, c.loop-low.invariant.within) in
-    at_place _ _ c.requires middle _ c.args.place within c.place_at-other.ensures (sym c.cmp.ensures ∙ c.in-Equal.is)
-
-pub loop-low-preserved : goal.loop-low-preserved
-loop-low-preserved c =
+pub returns-else-eq-clause-absent : goal.returns-else-eq-clause-absent
+returns-else-eq-clause-absent c =
     let es = shown c.args.slots.now.slots c.args.row.now.row in
-    let middle = c.loop-low.low + (c.loop-low.high - c.loop-low.low) / 2 in
-    let within : middle < length c.args.row.now.row = omega (arith, c.loop-low.invariant.within) in
-    let long = length_is _ _ c.requires in
-    let e = entry_there _ _ c.requires middle within in
-    let past : middle < before place_cmp c.args.place es = passes place_cmp places_total es middle e c.args.place (rw c.requires.sorted tt) (omega (arith, within, long)) (ap (place_cmp c.args.place) (place_there _ _ c.requires middle _ e within c.place_at-other.ensures) ∙ sym c.cmp.ensures ∙ c.in-Greater.is) in
-    record {
-      low = omega (arith, past);
-      high = c.loop-low.invariant.high;
-      within = c.loop-low.invariant.within;
-      behind = c.loop-low.invariant.behind;
-    }
-
-pub returns-clause-absent : goal.returns-clause-absent
-returns-clause-absent c =
-    let es = shown c.args.slots.now.slots c.args.row.now.row in
-    let here : c.loop-low.low ≡ before place_cmp c.args.place es = omega (arith, c.loop-low.invariant.low, c.loop-low.invariant.high) in
-    let top : c.loop-low.low ≡ c.loop-low.high = omega (arith, c.loop-low.invariant.low, c.loop-low.invariant.high) in
-    gap_any es c.loop-low.low c.args.place c.requires.sorted here (λ d. rw top (c.loop-low.invariant.behind d))
+    let at = c.count_before-at.result in
+    let here = c.count_before-at.ensures.count in
+    let within : at < length c.args.row.now.row = omega (arith, c.count_before-at.ensures.within, c.len.ensures, c.if-at-len.false) in
+    let apart : (d : _) → (get_or es at d).0 ≢ c.args.place = λ d is. true≢false (sym ((Decides-eq_place c.place_at.result c.args.place).1 (sym (place_there _ _ c.requires at c.place_at.result d within c.place_at.ensures) ∙ is)) ∙ sym c.eq.ensures ∙ c.if-eq.false) in
+    subst (IsGapFor es c.args.place) (sym here) (gap_other c.args.place es c.requires.sorted (λ d inside. subst (λ n. (get_or es n d).0 ≢ c.args.place) here (apart d)))

@@ -5,7 +5,8 @@ use Rattle.wsm_record.specs.declared.event.Value.{Value}
 use Rattle.wsm_windows.specs.declared.place.Place.{Place}
 use Rattle.wsm_semantics.specs.Summaries.{Pane}
 use Rattle.wsm_panes.specs.Held.{once_fired}
-use Rattle.wsm_panes.specs.Stored.{AreStored, shown}
+use Rattle.wsm_panes.specs.Stored.{AreListed, AreStored, shown}
+use Rattle.wsm_panes.proofs.Listed.{set_listed}
 use Rattle.wsm_panes.proofs.Tables.{get_is, map_of, put_is}
 use Rattle.wsm_panes.proofs.StoredEdits.{own_entry, set_shows, set_stored, slot_there}
 use Rattle.wsm_panes.proofs.list.ListTable.fire.Goals as goal
@@ -27,6 +28,7 @@ invariant_of-self c =
     let new : c.fire.new.self.slots ≡ set os k (Some (c.args.spot.place, v)) = ap (λ s. s.slots) c.fire.ensures ∙ ap (λ o. set os k (fires o)) own.1.0 in
     record {
       stored = subst (λ ns. AreStored ns c.self.inside.row.row) (sym new) (set_stored _ _ stored c.number_of-at.result k c.get.ensures.here c.args.spot.place c.number_of-at.ensures.at v (slot_there _ _ stored c.number_of-at.result k c.get.ensures.here) c.get.ensures.once);
+      listed = subst (λ ns. AreListed ns c.self.inside.row.row) (sym new) (set_listed os c.self.inside.row.row k (c.args.spot.place, v) c.get.ensures.once c.self.invariant.listed);
       room = c.self.invariant.room ∙ sym (ap length new ∙ length-set os k (Some (c.args.spot.place, v)));
     }
 
