@@ -1,10 +1,10 @@
 -- A row that shows no byte, and a text that is made longer.
-use Rattle.std.proofs.Common.{◌≡◌, ◌≢◌, ◌==◌, ◌∷◌, ◌++◌, ◌∙◌, [], ℕ, suc, List, true, false, refl, sym, ap, length, length-append, get_or, take, take-take, inl, inr, arith}
+use Rattle.std.proofs.Common.{◌≡◌, ◌≢◌, ◌==◌, ◌∷◌, ◌++◌, ◌∙◌, [], ℕ, suc, List, true, false, refl, sym, ap, length, length-append, append_assoc, get_or, take, take-take, inl, inr, arith}
 use Rattle.std.proofs.Math.Seq.{take-append_seam}
 use Rattle.std.specs.Prelude.{◌+◌, ◌<◌, ◌≤◌}
 use Rattle.std.proofs.lemmas.Bool.{cases_Bool, ne_eqb}
 use Rattle.std.specs.List.{list_any}
-use Rattle.csv.specs.Writing.{default_writer, escaped, field_text, is_blank, needs_byte, next_sep, row_body, row_text}
+use Rattle.csv.specs.Writing.{default_writer, escaped, field_text, fields_text, is_blank, needs_byte, next_sep, row_body, row_text}
 use Rattle.csv.proofs.WriteFacts.{row-step}
 
 more_than_none : (xs : List ℕ) → (suc (length xs) == 0) ≡ false
@@ -59,3 +59,25 @@ pub text_of_more : (cells : List (List ℕ)) → 2 ≤ length cells → row_text
 text_of_more cells more =
     let shows : is_blank default_writer cells ≡ false = sym (blank_of_more cells (λ e. omega (arith, more, e)) (λ e. omega (arith, more, e))) in
     rw shows refl
+
+-- these cells are those of a row of four
+pub four_cells : (cells : List (List ℕ)) (a b c d : List ℕ) → length cells ≡ 4 → a ≡ get_or cells 0 [] → b ≡ get_or cells 1 [] → c ≡ get_or cells 2 [] → d ≡ get_or cells 3 [] → a ∷ b ∷ c ∷ d ∷ [] ≡ cells
+four_cells [] a b c d e ha hb hc hd = cc e
+four_cells (w ∷ []) a b c d e ha hb hc hd = absurd (omega (arith, e))
+four_cells (w ∷ x ∷ []) a b c d e ha hb hc hd = absurd (omega (arith, e))
+four_cells (w ∷ x ∷ y ∷ []) a b c d e ha hb hc hd = absurd (omega (arith, e))
+four_cells (w ∷ x ∷ y ∷ z ∷ []) a b c d e ha hb hc hd = rw (ha, hb, hc, hd) refl
+four_cells (w ∷ x ∷ y ∷ z ∷ v ∷ rest) a b c d e ha hb hc hd = absurd (omega (arith, e))
+
+-- four texts one behind the other, each with the byte behind it
+four_behind : (out a b c d : List ℕ)
+    → (((out ++ (a ++ 44 ∷ [])) ++ (b ++ 44 ∷ [])) ++ (c ++ 44 ∷ [])) ++ (d ++ 10 ∷ []) ≡ out ++ ((a ++ (44 ∷ (b ++ (44 ∷ (c ++ (44 ∷ (d ++ []))))))) ++ 10 ∷ [])
+four_behind out a b c d = simp (append_assoc) refl
+
+-- the text of a row of four cells, made cell by cell
+pub text_of_four : (a b c d out one two three four : List ℕ) → one ≡ out ++ (field_text default_writer a ++ 44 ∷ []) → two ≡ one ++ (field_text default_writer b ++ 44 ∷ [])
+    → three ≡ two ++ (field_text default_writer c ++ 44 ∷ []) → four ≡ three ++ (field_text default_writer d ++ 10 ∷ [])
+    → four ≡ out ++ row_text default_writer (a ∷ b ∷ c ∷ d ∷ [])
+unfolding fields_text is_blank
+text_of_four a b c d out one two three four h1 h2 h3 h4 =
+    rw (h4, h3, h2, h1) (four_behind out (field_text default_writer a) (field_text default_writer b) (field_text default_writer c) (field_text default_writer d))

@@ -9,6 +9,12 @@ use wsm_record::marks::{mark_of, place_of, word_of};
 // How many places there are at least for a key, so that few share one.
 const PLACES: usize = 8;
 
+/// How many places near one another are tried for a text.
+pub(crate) const NEAR: usize = 4;
+
+// The number of a guess where no key has the place.
+const NO_NUMBER: u32 = u32::MAX;
+
 /// A key to try for a text, by its number and its part, and its word: 0, which no text has, where it is too
 /// long for one.
 #[derive(Clone, Copy)]
@@ -18,7 +24,8 @@ pub(crate) struct Guess {
     pub(crate) part: u32,
 }
 
-/// At the place of a text what is tried first for it. Of keys that share a place the last one has it.
+/// At the place of a text, and at those near it, what is tried first for it. A key has the first of these
+/// places that no key before it has, and where none is left that of the text.
 #[derive(Drop)]
 pub(crate) struct Guesses {
     guesses: Vec<Guess>,
@@ -39,13 +46,13 @@ impl Guesses {
         let shift = places.leading_zeros() + 1;
         let unknown = Guess {
             word: 0,
-            number: 0,
+            number: NO_NUMBER,
             part: 0,
         };
         let mut guesses = vec![in alloc; unknown; places]?;
         for number in 0..keys.len().min(u32::MAX as usize) {
             let key = keys[number].as_slice();
-            let place = place_of(mark_of(key), shift);
+            let place = free_place(&guesses, place_of(mark_of(key), shift));
             set_guess(&mut guesses, place, guess_of(key, number, block));
         }
         Ok(Guesses { guesses, shift })
@@ -56,12 +63,29 @@ impl Guesses {
         *self.guesses.allocator()
     }
 
-    /// What is tried first for a text of this mark.
+    /// What is tried for a text of this mark, first at its place, and then at the next ones of those near it.
     #[inline(always)]
-    pub(crate) fn at(&self, mark: u64) -> Option<&Guess>
+    pub(crate) fn at(&self, mark: u64, step: usize) -> Option<&Guess>
         ensures { (names : List (List ℕ)) (block : ℕ) → AreGuesses names block self.now.guesses.items → IfSome result (λ guess. IsGuess names block guess.now) }
     {
-        self.guesses.get(place_of(mark, self.shift))
+        self.guesses.get(place_of(mark, self.shift) ^ step)
+    }
+}
+
+// The first place of those near this one that no key has; this one where there is none.
+fn free_place(guesses: &[Guess], place: usize) -> usize {
+    for step in 0..NEAR {
+        if is_free(guesses.get(place ^ step)) {
+            return place ^ step;
+        }
+    }
+    place
+}
+
+fn is_free(guess: Option<&Guess>) -> bool {
+    match guess {
+        Some(guess) => guess.number == NO_NUMBER,
+        None => false,
     }
 }
 

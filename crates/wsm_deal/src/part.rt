@@ -43,6 +43,7 @@ impl<D: Device> Part<D> {
     }
 
     /// Deals a row to the part. Where too much is kept it is handed on.
+    #[inline(always)]
     pub(crate) fn add(&mut self, row: &ByteRecord) -> Result<(), DealEnd>
         ensures adds { (old : Option (List ℕ)) (rows : List (List (List ℕ))) → Has D.taken old rows self.old → OnOk result (Has D.taken old (rows ++ fields_of row.now ∷ []) self.new) }
         ensures part { (old : Option (List ℕ)) (rows : List (List (List ℕ))) → Has D.taken old rows self.old → OnErr result (TakesPart old (D.taken (out_of self.new)) (part_text (rows ++ fields_of row.now ∷ []))) }
@@ -68,6 +69,7 @@ impl<D: Device> Part<D> {
     }
 
     // Deals a row to the part, whose text is kept.
+    #[inline(always)]
     fn keep(&mut self, row: &ByteRecord) -> Result<(), AllocError>
         ensures adds { (old : Option (List ℕ)) (rows : List (List (List ℕ))) → Has D.taken old rows self.old → OnOk result (Has D.taken old (rows ++ fields_of row.now ∷ []) self.new) }
         ensures out { self.new.out ≡ self.old.out }

@@ -1,6 +1,6 @@
 //! The text of a row, which is read back as the row.
 
-ghost use Rattle.std.specs.Prelude.{◌≡◌, ◌<◌, ◌≤◌, ◌+◌, ◌++◌, ◌∷◌, [], get_or, length, not, take, true, vec_capacity, vec_len, if◌then◌else◌, OnOk};
+ghost use Rattle.std.specs.Prelude.{◌≡◌, ◌<◌, ◌≤◌, ◌+◌, ◌++◌, ◌∷◌, [], ℕ, List, false, get_or, length, not, take, true, vec_capacity, vec_len, if◌then◌else◌, OnOk};
 ghost use Rattle.std.specs.List.{list_any};
 ghost use Rattle.csv.specs.Records.{fields_of};
 ghost use Rattle.csv.specs.Writing as csv;
@@ -9,8 +9,203 @@ use csv::ByteRecord;
 use std::alloc::AllocError;
 use std::mem;
 
+// How many bytes a row of four short cells has at most: 15 in each, and one behind it.
+const SHORT_ROOM: usize = 64;
+
 /// Adds the text of a row, as `csv` writes it.
+#[inline(always)]
 pub(crate) fn add_row(row: &ByteRecord, out: &mut Vec<u8>) -> Result<(), AllocError>
+    ensures { OnOk result (out.new.items ≡ out.old.items ++ csv.row_text csv.default_writer (fields_of row.now)) }
+{
+    let start = out.len();
+    make_short_room(out)?;
+    if add_short_row(row, out) {
+        return Ok(());
+    }
+    out.truncate(start);
+    add_long_row(row, out)
+}
+
+// Has room for the text of a row of short cells.
+#[inline(always)]
+fn make_short_room(out: &mut Vec<u8>) -> Result<(), AllocError>
+    ensures same { out.new.items ≡ out.old.items }
+    ensures room { OnOk result (vec_len out.new + SHORT_ROOM ≤ vec_capacity out.new) }
+{
+    if out.capacity() - out.len() < SHORT_ROOM {
+        out.reserve(SHORT_ROOM)?;
+    }
+    Ok(())
+}
+
+// Adds the text of a row of four short cells, as records of one value have them, that need no quotes, and
+// answers whether it did. Of another one a part may be added.
+#[inline(always)]
+fn add_short_row(row: &ByteRecord, out: &mut Vec<u8>) -> bool
+    requires { vec_len out.old + SHORT_ROOM ≤ vec_capacity out.old }
+    ensures all { result ≡ true → out.new.items ≡ out.old.items ++ csv.row_text csv.default_writer (fields_of row.now) }
+    ensures kept { take (length out.old.items) out.new.items ≡ out.old.items }
+{
+    let empty = Vec::new(*out.allocator());
+    let (is_short, text) = with_short_row(row, mem::replace(out, empty));
+    // What is let go is empty, so it holds no memory.
+    mem::forget(mem::replace(out, text));
+    is_short
+}
+
+// The same to a text by value, whose length can stay in a register.
+#[inline(always)]
+fn with_short_row(row: &ByteRecord, mut text: Vec<u8>) -> (bool, Vec<u8>)
+    requires { vec_len text + SHORT_ROOM ≤ vec_capacity text }
+    ensures all { result.0 ≡ true → result.1.items ≡ text.items ++ csv.row_text csv.default_writer (fields_of row.now) }
+    ensures kept { take (length text.items) result.1.items ≡ text.items }
+{
+    if row.len() != 4 {
+        return (false, text);
+    }
+    let is_short = add_cells(
+        cell_at(row, 0),
+        cell_at(row, 1),
+        cell_at(row, 2),
+        cell_at(row, 3),
+        &mut text,
+    );
+    (is_short, text)
+}
+
+// Adds the text of a row of these cells, as that of a row of short ones.
+#[inline(always)]
+fn add_cells(tag: &[u8], key: &[u8], time: &[u8], value: &[u8], out: &mut Vec<u8>) -> bool
+    requires { vec_len out.old + SHORT_ROOM ≤ vec_capacity out.old }
+    ensures all { result ≡ true → out.new.items ≡ out.old.items ++ csv.row_text csv.default_writer (tag.now ∷ key.now ∷ time.now ∷ value.now ∷ []) }
+    ensures kept { take (length out.old.items) out.new.items ≡ out.old.items }
+{
+    if !add_short(tag, b',', out) {
+        return false;
+    }
+    if !add_short(key, b',', out) {
+        return false;
+    }
+    if !add_short(time, b',', out) {
+        return false;
+    }
+    add_short(value, b'\n', out)
+}
+
+// Adds a cell of 15 bytes or less that needs no quotes, and a byte behind it, and answers whether it did.
+#[inline(always)]
+fn add_short(cell: &[u8], next: u8, out: &mut Vec<u8>) -> bool
+    requires { vec_len out.old + 16 ≤ vec_capacity out.old }
+    ensures room { (vec_len out.new ≤ vec_len out.old + 16) × (vec_capacity out.new ≡ vec_capacity out.old) }
+    ensures all { result ≡ true → out.new.items ≡ out.old.items ++ (csv.field_text csv.default_writer cell.now ++ next ∷ []) }
+    ensures kept { take (length out.old.items) out.new.items ≡ out.old.items }
+{
+    let behind_four = add_four(cell, out);
+    let behind_eight = add_four(behind_four, out);
+    let rest = add_four(behind_eight, out);
+    add_few(rest, next, out)
+}
+
+// Adds the first four bytes of a cell at once, where there are so many and none needs quotes, and gives the rest.
+#[inline(always)]
+fn add_four<'a>(cell: &'a [u8], out: &mut Vec<u8>) -> &'a [u8]
+    requires { vec_len out.old + 4 ≤ vec_capacity out.old }
+    ensures room { (vec_len out.new ≤ vec_len out.old + 4) × (vec_capacity out.new ≡ vec_capacity out.old) }
+    ensures text { out.new.items ++ result.now ≡ out.old.items ++ cell.now }
+    ensures needs { csv.needs_quotes csv.default_writer result.now ≡ csv.needs_quotes csv.default_writer cell.now }
+    ensures kept { take (length out.old.items) out.new.items ≡ out.old.items }
+{
+    match cell {
+        [a, b, c, d, rest @ ..] if are_bare(*a, *b, *c, *d) => {
+            push_four(*a, *b, *c, *d, out);
+            rest
+        }
+        _ => cell,
+    }
+}
+
+// Adds a cell of three bytes or less that needs no quotes, and a byte behind it, and answers whether it did.
+// Of another one nothing is added.
+#[inline(always)]
+fn add_few(cell: &[u8], next: u8, out: &mut Vec<u8>) -> bool
+    requires { vec_len out.old + 4 ≤ vec_capacity out.old }
+    ensures room { (vec_len out.new ≤ vec_len out.old + 4) × (vec_capacity out.new ≡ vec_capacity out.old) }
+    ensures all { out.new.items ≡ (if result then out.old.items ++ (cell.now ++ next ∷ []) else out.old.items) }
+    ensures needs { result ≡ true → csv.needs_quotes csv.default_writer cell.now ≡ false }
+{
+    match cell {
+        [] => {
+            out.push_reserved(next);
+            true
+        }
+        [a] if is_bare(*a) => {
+            push_two(*a, next, out);
+            true
+        }
+        [a, b] if is_bare(*a) && is_bare(*b) => {
+            push_three(*a, *b, next, out);
+            true
+        }
+        [a, b, c] if is_bare(*a) && is_bare(*b) && is_bare(*c) => {
+            push_four(*a, *b, *c, next, out);
+            true
+        }
+        _ => false,
+    }
+}
+
+// Whether no byte of four needs quotes, where it is told at once.
+#[inline(always)]
+fn are_bare(a: u8, b: u8, c: u8, d: u8) -> bool
+    ensures { result ≡ true → (rest : List ℕ) → csv.needs_quotes csv.default_writer (a ∷ b ∷ c ∷ d ∷ rest) ≡ csv.needs_quotes csv.default_writer rest }
+{
+    is_bare(a) & is_bare(b) & is_bare(c) & is_bare(d)
+}
+
+// Whether a byte is past all that need quotes.
+#[inline(always)]
+fn is_bare(byte: u8) -> bool
+    ensures { result ≡ true → csv.needs_byte csv.default_writer byte ≡ false }
+{
+    b',' < byte
+}
+
+// Adds two bytes, where there is room for them.
+#[inline(always)]
+fn push_two(a: u8, b: u8, out: &mut Vec<u8>)
+    requires { vec_len out.old + 2 ≤ vec_capacity out.old }
+    ensures room { (vec_len out.new ≡ vec_len out.old + 2) × (vec_capacity out.new ≡ vec_capacity out.old) }
+    ensures items { out.new.items ≡ out.old.items ++ (a ∷ b ∷ []) }
+{
+    out.push_reserved(a);
+    out.push_reserved(b);
+}
+
+// Adds three.
+#[inline(always)]
+fn push_three(a: u8, b: u8, c: u8, out: &mut Vec<u8>)
+    requires { vec_len out.old + 3 ≤ vec_capacity out.old }
+    ensures room { (vec_len out.new ≡ vec_len out.old + 3) × (vec_capacity out.new ≡ vec_capacity out.old) }
+    ensures items { out.new.items ≡ out.old.items ++ (a ∷ b ∷ c ∷ []) }
+{
+    push_two(a, b, out);
+    out.push_reserved(c);
+}
+
+// Adds four.
+#[inline(always)]
+fn push_four(a: u8, b: u8, c: u8, d: u8, out: &mut Vec<u8>)
+    requires { vec_len out.old + 4 ≤ vec_capacity out.old }
+    ensures room { (vec_len out.new ≡ vec_len out.old + 4) × (vec_capacity out.new ≡ vec_capacity out.old) }
+    ensures items { out.new.items ≡ out.old.items ++ (a ∷ b ∷ c ∷ d ∷ []) }
+{
+    push_two(a, b, out);
+    push_two(c, d, out);
+}
+
+// Adds the text of a row that may have any number of cells, long ones too.
+#[inline(never)]
+fn add_long_row(row: &ByteRecord, out: &mut Vec<u8>) -> Result<(), AllocError>
     ensures { OnOk result (out.new.items ≡ out.old.items ++ csv.row_text csv.default_writer (fields_of row.now)) }
 {
     let start = out.len();

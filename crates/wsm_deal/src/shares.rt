@@ -3,7 +3,7 @@
 ghost use Rattle.std.specs.Prelude.{◌≡◌, ◌<◌, ◌∷◌, length, map, IfOk};
 ghost use Rattle.wsm_deal.specs.KeysText.{keys_text};
 
-use crate::guesses::Guesses;
+use crate::guesses::{Guesses, NEAR};
 use csv::ByteRecord;
 use indexmap::IndexSet;
 use std::alloc::{AllocError, Global};
@@ -155,6 +155,7 @@ impl Shares {
     }
 
     /// Where a row goes.
+    #[inline(always)]
     pub fn goal_of(&self, row: &ByteRecord) -> Goal
         ensures { result ≡ goal_of self.now (fields_of row.now) }
     {
@@ -165,6 +166,7 @@ impl Shares {
     }
 
     // The same by its tag.
+    #[inline(always)]
     fn goal_by(&self, tag: &[u8], row: &ByteRecord) -> Goal
         ensures { (cells : List (List ℕ)) → fields_of row.now ≡ tag.now ∷ cells → result ≡ goal_of self.now (tag.now ∷ cells) }
     {
@@ -176,6 +178,7 @@ impl Shares {
     }
 
     // The part of a record.
+    #[inline(always)]
     fn record_part(&self, row: &ByteRecord) -> usize
         ensures { result ≡ record_part self.now (slice_get (fields_of row.now) 1) }
     {
@@ -186,32 +189,62 @@ impl Shares {
     }
 
     // The part of a key; the first one has what is no key.
+    #[inline(always)]
     fn part_of(&self, key: &[u8]) -> usize
         ensures { result ≡ part_of self.now key.now }
     {
-        match self.guess(key) {
-            Some(part) => part,
-            None => self.search(key),
-        }
-    }
-
-    // The part of a key, where what is tried first has it.
-    #[inline(always)]
-    fn guess(&self, key: &[u8]) -> Option<usize>
-        ensures { IfSome result (λ part. part ≡ part_of self.now key.now) }
-    {
         match word_of(key) {
-            Some(word) => self.guess_word(word),
-            None => self.guess_long(key),
+            Some(word) => self.part_of_short(key, word),
+            None => self.part_of_long(key),
         }
     }
 
-    // The same of a key with this word.
+    // The same of a key that has this word.
     #[inline(always)]
-    fn guess_word(&self, word: u64) -> Option<usize>
+    fn part_of_short(&self, key: &[u8], word: u64) -> usize
+        requires { spelled key.now ≡ word }
+        ensures { result ≡ part_of self.now key.now }
+    {
+        match self.guess_word(word, 0) {
+            Some(part) => part,
+            None => self.part_near(key, word),
+        }
+    }
+
+    // The same where what is tried at its place hasn't it.
+    #[inline(never)]
+    fn part_near(&self, key: &[u8], word: u64) -> usize
+        requires { spelled key.now ≡ word }
+        ensures { result ≡ part_of self.now key.now }
+    {
+        for step in 1..NEAR {
+            if let Some(part) = self.guess_word(word, step) {
+                return part;
+            }
+        }
+        self.search(key)
+    }
+
+    // The part of a key that has no word.
+    #[inline(never)]
+    fn part_of_long(&self, key: &[u8]) -> usize
+        ensures { result ≡ part_of self.now key.now }
+    {
+        let sum = sum_of(key);
+        for step in 0..NEAR {
+            if let Some(part) = self.guess_name(key, sum, step) {
+                return part;
+            }
+        }
+        self.search(key)
+    }
+
+    // The part of a key with this word, where what is tried at this step has it.
+    #[inline(always)]
+    fn guess_word(&self, word: u64, step: usize) -> Option<usize>
         ensures { (key : List ℕ) → AreBytes key → spelled key ≡ word → IfSome result (λ part. part ≡ part_of self.now key) }
     {
-        let guess = self.guesses.at(word)?;
+        let guess = self.guesses.at(word, step)?;
         if guess.word == word {
             Some(guess.part as usize)
         } else {
@@ -219,12 +252,12 @@ impl Shares {
         }
     }
 
-    // The same of a key that has no word.
-    #[inline(never)]
-    fn guess_long(&self, key: &[u8]) -> Option<usize>
+    // The same of a key that has no word, by its sum.
+    #[inline(always)]
+    fn guess_name(&self, key: &[u8], sum: u64, step: usize) -> Option<usize>
         ensures { IfSome result (λ part. part ≡ part_of self.now key.now) }
     {
-        let number = self.guesses.at(sum_of(key))?.number as usize;
+        let number = self.guesses.at(sum, step)?.number as usize;
         let name = self.names.as_slice().get(number)?;
         if name.as_slice() == key {
             Some(number / self.block)

@@ -4,7 +4,7 @@ use Rattle.std.proofs.lemmas.Option.{slice_get_read}
 use Rattle.std.proofs.lemmas.Slice.Eq.{bytes_eq-Decides}
 use Rattle.wsm_deal.proofs.DistinctKeys.{number_of_distinct}
 use Rattle.wsm_deal.proofs.Shared.{part_at}
-use Rattle.wsm_deal.proofs.shares.Shares.guess_long.Goals as goal
+use Rattle.wsm_deal.proofs.shares.Shares.guess_name.Goals as goal
 
 -- the only key with these bytes
 pub returns-then-eq : goal.returns-then-eq
