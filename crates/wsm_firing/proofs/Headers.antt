@@ -1,10 +1,10 @@
 -- What a program's own laws say of its triggers and columns, and of the records that a firing is computed over.
-use Rattle.std.proofs.Common.{◌≡◌, ℕ, ◌≤◌, true, ◌&&◌, List, length, ℤ, pos, IsTrue, SFits, w64, to_z, of_z, to_z-of_z, sym, ap, subst, ◌∙◌, arith}
+use Rattle.std.proofs.Common.{◌≡◌, ℕ, ◌≤◌, Bool, true, ◌&&◌, List, length, ℤ, pos, IsTrue, SFits, w64, to_z, of_z, to_z-of_z, sym, ap, subst, ◌∙◌, arith}
 use Rattle.std.proofs.lemmas.Int.{ints, fits_signed_from_abs}
 use Rattle.std.proofs.lemmas.Bool.Decides.{nat_tests}
 use Rattle.std.specs.Prelude.{nat_le, nat_lt, unsigned_abs}
 use Rattle.wsm_record.specs.declared.event.Value.{Value}
-use Rattle.wsm_record.specs.Modes.{may_write}
+use Rattle.wsm_record.specs.Modes.{may_write, retracts}
 use Rattle.wsm_windows.specs.Windows.{IsSpan}
 use Rattle.wsm_interval.specs.Interval.{interval, holds}
 use Rattle.wsm_semantics.proofs.Assigned.{both}
@@ -56,3 +56,7 @@ pub zero_count : (n : ℤ) → IsSpan n → of_z w64 n ≡ 0 → unsigned_abs n 
 zero_count n s zero =
     let fits : SFits w64 n = fits_signed_from_abs w64 n (grind (arith, ints, s.low, s.high)) in
     ap unsigned_abs (sym (to_z-of_z fits) ∙ ap (to_z w64) zero)
+
+-- whether panes retract, as it is told by a program's header
+pub retracts_by : {p q : Program} {h : Header} {b : Bool} → b ≡ retracts h.mode → h ≡ p.header → p ≡ q → b ≡ retracts q.header.mode
+retracts_by e g f = e ∙ ap (λ (h : Header). retracts h.mode) (g ∙ ap (λ (p : Program). p.header) f)
