@@ -1,0 +1,4 @@
+mod Joined
+mod Filled
+mod Shifted
+mod Near

@@ -1,0 +1,3 @@
+pub mod Listed
+pub mod Tiers
+pub mod Near
