@@ -1,9 +1,9 @@
 -- Slots that go into a row and out of it: each is in the row or free, once.
-use Rattle.std.proofs.Common.{◌≡◌, ◌≢◌, ◌<◌, ◌≤◌, ◌+◌, ℕ, zero, suc, Bool, true, false, cond, Some, ◌⊎◌, ◌-◌, List, [], ◌∷◌, ◌++◌, get_or, length, length-append, set, take, drop, refl, sym, ap, ◌∙◌, inl, inr, arith}
-use Rattle.std.proofs.lemmas.Bool.{true≢false, cases_Bool, cases_eq}
+use Rattle.std.proofs.Common.{◌≡◌, ◌≢◌, ◌<◌, ◌≤◌, ◌+◌, ℕ, zero, suc, Bool, true, false, cond, Some, List, [], ◌∷◌, ◌++◌, length, length-append, take, drop, refl, sym, ap, ◌∙◌, inl, inr, arith}
+use Rattle.std.proofs.lemmas.Bool.{true≢false, cases_Bool}
 use Rattle.std.proofs.lemmas.Bool.Decides.{nat_tests}
-use Rattle.std.proofs.lemmas.List.{ext_get_or, get_or-set_other, get_or-set_same, length-set, take-append-drop}
-use Rattle.std.proofs.lemmas.List.Edits.{get_or-insert_above, get_or-insert_at, get_or-insert_below, length-insert}
+use Rattle.std.proofs.lemmas.List.{take-append-drop}
+use Rattle.std.proofs.lemmas.List.Edits.{length-insert, length-remove}
 use Rattle.std.specs.Prelude.{insert, nat_eq, nat_lt, slice_get}
 use Rattle.std.specs.List.{remove}
 use Rattle.std.specs.Option.{is_some}
@@ -14,20 +14,6 @@ same_self s = grind (arith, nat_tests)
 
 pub apart_same : (r s : ℕ) → same r s ≡ 0 → r ≢ s
 apart_same r s h is = let one : same r s ≡ 1 = rw is (same_self s) in omega (arith, h, one)
-
--- a number is put in where those behind its place were moved a place on
-pub put_between : (row moved : List ℕ) (at s : ℕ) → at ≤ length row → length moved ≡ length row + 1
-    → ((k : ℕ) → k < at → get_or moved k 0 ≡ get_or row k 0) → ((k : ℕ) → at ≤ k → k < length row → get_or moved (k + 1) 0 ≡ get_or row k 0) → set moved at s ≡ insert row at s
-put_between row moved at s within long below above = ext_get_or 0 (set moved at s) (insert row at s) (length-set moved at s ∙ long ∙ sym (length-insert row at s within)) (λ k inside. each k (omega (arith, inside, length-set moved at s, long)) (cases_eq k at)) where
-  behind : (k : ℕ) → at < k → k ≤ length row → (j : ℕ) → k ≡ j + 1 → get_or moved k 0 ≡ get_or (insert row at s) k 0
-  behind k past inside j next = rw next (above j (omega (arith, past, next)) (omega (arith, inside, next)) ∙ sym (get_or-insert_above row at s 0 j (omega (arith, past, next)) within))
-
-  each : (k : ℕ) → k ≤ length row → (k ≡ at) ⊎ (k ≡ at → ⊥) → get_or (set moved at s) k 0 ≡ get_or (insert row at s) k 0
-  each k inside (inl here) = rw here (get_or-set_same moved at s 0 (omega (arith, within, long)) ∙ sym (get_or-insert_at row at s 0 within))
-  each k inside (inr other) = get_or-set_other moved at k s 0 other ∙ (elim (cases_Bool (nat_lt k at)) [
-    | inl less ↦ let first : k < at = grind (arith, nat_tests) in below k first ∙ sym (get_or-insert_below row at s 0 k first within)
-    | inr more ↦ let last : at ≤ k = grind (arith, nat_tests) in let past : at < k = omega (arith, last, other) in behind k past inside (k - 1) (omega (arith, past))
-  ])
 
 pub listed-append : (s : ℕ) (xs ys : List ℕ) → listed s (xs ++ ys) ≡ listed s xs + listed s ys
 listed-append s [] ys = omega arith
@@ -91,3 +77,21 @@ module _ (room : ℕ) (row free : List ℕ) (h : AreApart room row free) where
       once = λ s. let sum = h.once s in let more = listed_more s i slot row fits in omega (arith, sum, more, taken s);
       count = let long = ap length all ∙ length-append left (slot ∷ []) in omega (arith, h.count, long, length-insert row i slot fits);
     }
+
+-- a slot of the row stands at another number of it
+module _ (row : List ℕ) (from to s : ℕ) (inside : from < length row) (within : to < length row) (at : slice_get row from ≡ Some s) where
+  shorter : length (remove row from) + 1 ≡ length row
+  shorter = length-remove row from inside
+
+  listed_same : (r : ℕ) → listed r (insert (remove row from) to s) ≡ listed r row
+  listed_same r = let less = listed_less r from s row at in let more = listed_more r to s (remove row from) (omega (arith, shorter, within)) in omega (arith, less, more)
+
+  module _ (room : ℕ) (free : List ℕ) (h : AreApart room row free) where
+    pub shifted_apart : AreApart room (insert (remove row from) to s) free
+    shifted_apart = record {
+      once = λ r. let sum = h.once r in let same = listed_same r in omega (arith, sum, same);
+      count = let count = h.count in omega (arith, count, shorter, length-insert (remove row from) to s (omega (arith, shorter, within)));
+    }
+
+    pub gone : listed s (remove row from) ≡ 0
+    gone = let once = once_at room row free h from s at in let less = listed_less s from s row at in let one = same_self s in omega (arith, once, less, one)

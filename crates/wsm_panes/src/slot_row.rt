@@ -6,12 +6,13 @@ ghost use Rattle.wsm_panes.specs.Stored.{listed};
 
 use std::alloc::{AllocError, Global};
 use std::marker::Model;
+use wsm_tiers::TieredList;
 
 /// Numbers of slots, from 0 on. Some slots stand in a row, and the others are free. A clause sees the
 /// row, and how many slots there are.
 #[derive(Drop)]
 pub(crate) struct SlotRow {
-    row: Vec<u32>,
+    row: TieredList<u32>,
     free: Vec<u32>,
 }
 
@@ -21,9 +22,9 @@ impl Model for SlotRow {
 
     ghost Value = { Taken };
 
-    ghost view = { λ a. record { row = a.row.items; room = vec_capacity a.row } };
+    ghost view = { λ a. record { row = a.row.items; room = a.row.room } };
 
-    ghost invariant = { λ a. AreApart (vec_capacity a.row) a.row.items a.free.items × (vec_capacity a.free ≡ vec_capacity a.row) };
+    ghost invariant = { λ a. AreApart a.row.room a.row.items a.free.items × (vec_capacity a.free ≡ a.row.room) };
 }
 
 impl SlotRow {
@@ -38,7 +39,7 @@ impl SlotRow {
         ensures room { IfOk result (λ r. r.room ≡ room) }
     {
         Ok(SlotRow {
-            row: Vec::with_capacity(alloc, room)?,
+            row: TieredList::open(alloc, room)?,
             free: numbers(alloc, room)?,
         })
     }
@@ -54,7 +55,7 @@ impl SlotRow {
     pub(crate) fn room(&self) -> usize
         ensures { result ≡ self.now.room }
     {
-        self.row.capacity()
+        self.row.room()
     }
 
     /// The slot that stands at a number.
@@ -63,7 +64,7 @@ impl SlotRow {
         ensures here { slice_get self.now.row at ≡ Some result }
         ensures once { listed result self.now.row ≡ 1 }
     {
-        self.row[at] as usize
+        self.row.get(at) as usize
     }
 
     /// Has the slot that was freed last stand at a number, in front of those from there on, and gives it.
@@ -76,7 +77,7 @@ impl SlotRow {
         ensures room { self.new.room ≡ self.old.room }
     {
         let slot = self.free.pop().unwrap();
-        put_number(&mut self.row, at, slot);
+        self.row.insert(at, slot);
         slot as usize
     }
 
@@ -87,8 +88,7 @@ impl SlotRow {
         ensures room { self.new.room ≡ self.old.room }
         ensures left { length self.new.row < self.new.room }
     {
-        let slot = self.row[at];
-        take_number(&mut self.row, at);
+        let slot = self.row.remove(at);
         self.free.push_reserved(slot);
     }
 
@@ -101,9 +101,7 @@ impl SlotRow {
         ensures fresh { listed result (remove self.old.row from) ≡ 0 }
         ensures room { self.new.room ≡ self.old.room }
     {
-        let slot = self.row[from];
-        shift_number(&mut self.row, from, to);
-        slot as usize
+        self.row.shift(from, to) as usize
     }
 
     /// Has the first slots of the row be free, so many.
@@ -114,7 +112,7 @@ impl SlotRow {
     {
         if count > 0 {
             add_first(&mut self.free, &self.row, count);
-            drop_items(&mut self.row, count);
+            self.row.drop_first(count);
         }
     }
 }
@@ -134,65 +132,13 @@ fn numbers(alloc: Global, count: usize) -> Result<Vec<u32>, AllocError>
 }
 
 // Adds the first numbers of others, so many.
-fn add_first(numbers: &mut Vec<u32>, others: &[u32], count: usize)
-    requires within { count ≤ length others.now }
+fn add_first(numbers: &mut Vec<u32>, others: &TieredList<u32>, count: usize)
+    requires within { count ≤ length others.now.items }
     requires room { vec_len numbers.old + count ≤ vec_capacity numbers.old }
-    ensures items { numbers.new.items ≡ numbers.old.items ++ take count others.now }
+    ensures items { numbers.new.items ≡ numbers.old.items ++ take count others.now.items }
     ensures capacity { vec_capacity numbers.new ≡ vec_capacity numbers.old }
 {
     for i in 0..count {
-        numbers.push_reserved(others[i]);
+        numbers.push_reserved(others.get(i));
     }
-}
-
-// Has a number stand at a place, in front of those from there on, which are moved at once.
-fn put_number(numbers: &mut Vec<u32>, at: usize, number: u32)
-    requires at { at ≤ length numbers.old.items }
-    requires room { vec_len numbers.old < vec_capacity numbers.old }
-    ensures items { numbers.new.items ≡ insert numbers.old.items at number }
-    ensures capacity { vec_capacity numbers.new ≡ vec_capacity numbers.old }
-{
-    let len = numbers.len();
-    numbers.push_reserved(number);
-    numbers.copy_within(at..len, at + 1);
-    numbers[at] = number;
-}
-
-// Takes the number at a place out. Those behind it are moved at once.
-fn take_number(numbers: &mut Vec<u32>, at: usize)
-    requires { at < length numbers.old.items }
-    ensures items { numbers.new.items ≡ remove numbers.old.items at }
-    ensures capacity { vec_capacity numbers.new ≡ vec_capacity numbers.old }
-{
-    let left = numbers.len() - 1;
-    numbers.copy_within(at + 1.., at);
-    numbers.truncate(left);
-}
-
-// Has the number at a place stand at another, as those of the others are counted. Those between are
-// moved at once.
-fn shift_number(numbers: &mut Vec<u32>, from: usize, to: usize)
-    requires from { from < length numbers.old.items }
-    requires to { to < length numbers.old.items }
-    ensures items { (slot : ℕ) → slice_get numbers.old.items from ≡ Some slot → numbers.new.items ≡ insert (remove numbers.old.items from) to slot }
-    ensures capacity { vec_capacity numbers.new ≡ vec_capacity numbers.old }
-{
-    let number = numbers[from];
-    if from < to {
-        numbers.copy_within(from + 1..to + 1, from);
-    } else {
-        numbers.copy_within(to..from, to + 1);
-    }
-    numbers[to] = number;
-}
-
-// Drops the first numbers, so many.
-fn drop_items(numbers: &mut Vec<u32>, count: usize)
-    requires { count ≤ length numbers.old.items }
-    ensures items { numbers.new.items ≡ drop count numbers.old.items }
-    ensures capacity { vec_capacity numbers.new ≡ vec_capacity numbers.old }
-{
-    let left = numbers.len() - count;
-    numbers.copy_within(count.., 0);
-    numbers.truncate(left);
 }

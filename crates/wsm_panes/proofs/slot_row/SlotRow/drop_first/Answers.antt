@@ -10,17 +10,17 @@ invariant_of-self c =
     let n = c.args.count in
     let xs = a.row.items in
     let within : n ≤ length xs = rw (← c.self.view_is) at c.requires in
-    let freed = rw c.deref.ensures.value at c.add_first.ensures.items in (
-      rw (c.drop_items.ensures.capacity) (record {
+    let freed = c.add_first.ensures.items in (
+      rw (c.drop_first.ensures.room) (record {
         once = λ s.
             let sum = c.self.invariant.0.once s in
-            let left = ap (listed s) c.drop_items.ensures.items in
+            let left = ap (listed s) c.drop_first.ensures.items in
             let more = ap (listed s) freed ∙ listed-append s a.free.items (take n xs) in
             omega (arith, sum, left, more, listed_parts s n xs);
         count =
-            let left = ap length c.drop_items.ensures.items in
+            let left = ap length c.drop_first.ensures.items in
             let more = ap length freed ∙ length-append a.free.items (take n xs) in
             omega (arith, c.self.invariant.0.count, left, more, length-drop n xs, length-take-le n xs within, within);
       }),
-      c.add_first.ensures.capacity ∙ c.self.invariant.1 ∙ sym c.drop_items.ensures.capacity,
+      c.add_first.ensures.capacity ∙ c.self.invariant.1 ∙ sym c.drop_first.ensures.room,
     )

@@ -1,5 +1,5 @@
 use Rattle.std.proofs.Common.{◌≡◌, ◌≤◌, ◌++◌, ◌∷◌, [], ap, sym, ◌∙◌, length}
-use Rattle.std.specs.Prelude.{option_to_list, vec_capacity}
+use Rattle.std.specs.Prelude.{option_to_list}
 use Rattle.wsm_panes.proofs.SlotRows.{below, fresh, taken_apart}
 use Rattle.wsm_panes.proofs.slot_row.SlotRow.insert.Goals as goal
 
@@ -10,8 +10,7 @@ invariant_of-self c =
     let slot = c.unwrap-slot.result in
     let all : a.free.items ≡ left ++ slot ∷ [] = c.pop.ensures.items ∙ ap (λ o. left ++ option_to_list o) c.unwrap-slot.ensures in
     let fits : c.args.at ≤ length a.row.items = rw (← c.self.view_is) at c.requires.at in
-    let capacity : vec_capacity c.put_number.new.numbers ≡ vec_capacity a.row = c.put_number.ensures.capacity in
-    (rw (capacity, c.put_number.ensures.items) (taken_apart _ _ _ c.self.invariant.0 left slot all c.args.at fits), c.pop.ensures.capacity ∙ c.self.invariant.1 ∙ sym capacity)
+    (rw (c.insert.ensures.room, c.insert.ensures.items) (taken_apart _ _ _ c.self.invariant.0 left slot all c.args.at fits), c.pop.ensures.capacity ∙ c.self.invariant.1 ∙ sym c.insert.ensures.room)
 
 pub returns-clause-fresh : goal.returns-clause-fresh
 returns-clause-fresh c =
