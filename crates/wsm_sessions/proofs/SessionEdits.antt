@@ -1,5 +1,5 @@
 -- What the edits of a list of sessions make of it.
-use Rattle.std.proofs.Common.{◌≡◌, ℕ, zero, suc, ◌+◌, ◌<◌, ◌≤◌, Bool, true, false, ◌||◌, List, [], ◌∷◌, ◌++◌, length, get_or, length-append, add-one, ℤ, pos, ◌+ℤ◌, ◌≤ℤ◌, refl, sym, subst, ap, ◌∙◌, inl, inr, arith}
+use Rattle.std.proofs.Common.{◌≡◌, ℕ, zero, suc, ◌+◌, ◌<◌, ◌≤◌, Bool, true, false, ◌||◌, List, [], ◌∷◌, ◌++◌, drop, length, get_or, length-append, add-one, ℤ, pos, ◌+ℤ◌, ◌≤ℤ◌, refl, sym, subst, ap, ◌∙◌, inl, inr, arith}
 use Rattle.std.proofs.lemmas.Int.{ints}
 use Rattle.std.proofs.lemmas.Bool.{cases_Bool, true≢false}
 use Rattle.std.specs.Prelude.{filter, int_le, int_lt, insert, slice_get, slice_set, Some}
@@ -17,6 +17,7 @@ use Rattle.wsm_semantics.proofs.SessionOrder.{in_order, begins, extends, joins}
 use Rattle.wsm_sessions.specs.Live.{IsOfTimes}
 use Rattle.wsm_sessions.specs.declared.placed.Placed.TheVariants.{New, Extends, Joins}
 use Rattle.wsm_sessions.specs.Placing.{first_ends_by, starts_before, placed, placed_at, joined_at}
+use Rattle.wsm_sessions.proofs.Ended.{ended_count}
 use Rattle.wsm_sessions.proofs.Seams.{any_passes, insert_seam, get_seam, get_behind, set_seam, within_seam, within_behind}
 
 -- ---- where windows start
@@ -39,19 +40,22 @@ before_past reach [] i h = refl
 before_past reach (w ∷ ws) zero h = absurd (omega arith)
 before_past reach (w ∷ ws) (suc i) h = before_past reach ws i (omega arith)
 
+pub before_within : (reach : ℤ) (ws : List Window) (i : ℕ) → starts_before reach ws i ≡ true → i < length ws
+before_within reach [] i h = absurd (true≢false (sym h))
+before_within reach (w ∷ ws) zero h = omega arith
+before_within reach (w ∷ ws) (suc i) h = let rest = before_within reach ws i h in omega (arith, rest)
+
 joined_seam : (ps qs : List Window) (w v : Window) → joined_at (ps ++ w ∷ v ∷ qs) (length ps) ≡ ps ++ window w.start v.end ∷ qs
 joined_seam [] qs w v = refl
 joined_seam (p ∷ []) qs w v = refl
 joined_seam (p ∷ q ∷ ps) qs w v = ap (λ (vs : List Window). p ∷ vs) (joined_seam (q ∷ ps) qs w v)
 
--- the second is taken out, and the first written over
-pub joined_edits : (ws : List Window) (i : ℕ) (d e : Window) → i + 1 < length ws → slice_set (remove ws (i + 1)) i (window (get_or (remove ws (i + 1)) i d).start (get_or ws (i + 1) e).end) ≡ joined_at ws i
-joined_edits ws i d e h = ap (λ (k : ℕ). slice_set (remove ws k) i (window (get_or (remove ws k) i d).start (get_or ws k e).end)) (add-one i) ∙ at_next ws i (omega (arith, h)) where
-  at_next : (ws : List Window) (i : ℕ) → suc i < length ws → slice_set (remove ws (suc i)) i (window (get_or (remove ws (suc i)) i d).start (get_or ws (suc i) e).end) ≡ joined_at ws i
-  at_next [] i h = absurd (omega arith)
-  at_next (w ∷ []) i h = absurd (omega arith)
-  at_next (w ∷ v ∷ ws) zero h = refl
-  at_next (w ∷ v ∷ ws) (suc i) h = ap (λ (vs : List Window). w ∷ vs) (at_next (v ∷ ws) i (omega arith))
+-- the first is taken out, and the second written over
+pub joined_edits : (ws : List Window) (i : ℕ) (d e : Window) → i + 1 < length ws → slice_set (remove ws i) i (window (get_or ws i d).start (get_or (remove ws i) i e).end) ≡ joined_at ws i
+joined_edits [] i d e h = absurd (omega (arith, h))
+joined_edits (w ∷ []) i d e h = absurd (omega (arith, h))
+joined_edits (w ∷ v ∷ ws) zero d e h = refl
+joined_edits (w ∷ v ∷ ws) (suc i) d e h = ap (λ (vs : List Window). w ∷ vs) (joined_edits (v ∷ ws) i d e (omega (arith, h)))
 
 far : (reach : ℤ) (ws : List Window) → AllByRecursion (λ w. starts_from reach w ≡ true) ws → starts_before reach ws 0 ≡ false
 far reach [] h = refl
@@ -111,6 +115,18 @@ first_after t (w ∷ ws) parts first = all_after t w (w ∷ ws) (λ j h. elim (c
   | inl ended ↦ absurd (true≢false (sym (parts zero j w (omega arith) h ended) ∙ first))
   | inr later ↦ later
 ])
+
+-- those that end by a time are the first
+pub left_after : (t : ℤ) (ws : List Window) → IsPartitionedBy (ends_by t) ws → filter (ends_after t) ws ≡ drop (length (filter (ends_by t) ws)) ws
+left_after t [] parts = refl
+left_after t (w ∷ ws) parts = elim (cases_Bool (ends_by t w)) [
+  | inl ended ↦
+      let gone : ends_after t w ≡ false = grind (arith, ints) in
+      rw (ended, gone) (left_after t ws (λ i j d le h k. parts (suc i) (suc j) d (omega (arith, le)) (omega (arith, h)) k))
+  | inr later ↦
+      let none : 0 ≡ length (filter (ends_by t) (w ∷ ws)) = ended_count t (w ∷ ws) parts 0 (omega arith) refl (inr later) in
+      first_after t (w ∷ ws) parts later ∙ ap (λ n. drop n (w ∷ ws)) none
+]
 
 pub apart_of : (gap : ℤ) → pos 1 ≤ℤ gap → (ws : List Window) → IsOfTimes gap ws → AreApart gap ws
 apart_of gap long ws h = subst (AreApart gap) (sym h.are) (sessions_apart gap long h.times)

@@ -1,5 +1,5 @@
 -- What a time does to sessions.
-use Rattle.std.specs.Prelude.{◌≡◌, ◌⊎◌, ◌+◌, ◌≤◌, ℕ, zero, suc, Bool, true, false, ◌||◌, List, [], ◌∷◌, length, filter, ℤ, int_lt, nat_lt}
+use Rattle.std.specs.Prelude.{ℕ, zero, suc, Bool, true, false, ◌||◌, List, [], ◌∷◌, length, filter, ℤ, int_lt, nat_lt}
 use Rattle.std.specs.List.{list_any}
 use Rattle.wsm_windows.specs.declared.window.Window.{Window}
 use Rattle.wsm_windows.specs.Windows.{window}
@@ -64,7 +64,3 @@ joined_at [] i = []
 joined_at (w ∷ []) i = w ∷ []
 joined_at (w ∷ v ∷ ws) zero = window w.start v.end ∷ ws
 joined_at (w ∷ v ∷ ws) (suc i) = w ∷ joined_at (v ∷ ws) i
-
--- no more windows than there were, or one where the time is linked to none
-abbrev pub HasOneMore : ℤ → ℤ → List Window → ℕ → ℕ → Type 0
-HasOneMore gap t ws old new = (new ≤ old) ⊎ ((is_any_linked gap t ws ≡ false) × (new ≡ old + 1))

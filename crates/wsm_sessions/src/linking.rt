@@ -1,6 +1,6 @@
 //! Which sessions a time is linked to, and what windows come of it.
 
-ghost use Rattle.std.specs.Prelude.{◌≡◌, ◌≤◌, ◌+ℤ◌, ◌≤ℤ◌, pos, int_le, int_lt, length, filter};
+ghost use Rattle.std.specs.Prelude.{◌≡◌, ◌<◌, ◌≤◌, ◌^◌, ◌+ℤ◌, ◌≤ℤ◌, pos, int_le, int_lt, length, filter};
 ghost use Rattle.std.specs.Int.{int_max, int_min};
 ghost use Rattle.std.specs.List.Sorted.{IsPartitionedBy};
 ghost use Rattle.wsm_windows.specs.Windows.{IsTime, window, greatest_span};
@@ -10,15 +10,17 @@ ghost use Rattle.wsm_sessions.specs.Placing.{placed, those_linked};
 ghost use Rattle.wsm_sessions.specs.Placing as spec;
 
 use crate::placed::{Linked, Placed};
+use wsm_tiers::TieredList;
 use wsm_windows::Window;
 
 /// What a time does to sessions: which it is linked to, and at what place.
-pub fn find(windows: &[Window], gap: i64, time: i64) -> Placed
+pub fn find(windows: &TieredList<Window>, gap: i64, time: i64) -> Placed
     requires gap_low { pos 1 ≤ℤ gap }
     requires gap_high { gap ≤ℤ greatest_span }
     requires time { IsTime time }
-    requires sessions { IsOfTimes gap windows.now }
-    ensures { result ≡ placed gap time windows.now }
+    requires sessions { IsOfTimes gap windows.now.items }
+    ensures found { result ≡ placed gap time windows.now.items }
+    ensures countable { length windows.now.items < 2 ^ 64 }
 {
     let i = ended_by(windows, time);
     let reach = time + gap;
@@ -32,17 +34,18 @@ pub fn find(windows: &[Window], gap: i64, time: i64) -> Placed
 }
 
 /// The sessions that a time is linked to, where it was found what it does to them.
-pub fn linked_at(windows: &[Window], gap: i64, time: i64, found: Placed) -> Linked
+pub fn linked_at(windows: &TieredList<Window>, gap: i64, time: i64, found: Placed) -> Linked
     requires gap_low { pos 1 ≤ℤ gap }
     requires time { IsTime time }
-    requires sessions { IsOfTimes gap windows.now }
-    requires found { found ≡ placed gap time windows.now }
-    ensures { those_linked result ≡ filter (links gap time) windows.now }
+    requires sessions { IsOfTimes gap windows.now.items }
+    requires found { found ≡ placed gap time windows.now.items }
+    requires countable { length windows.now.items < 2 ^ 64 }
+    ensures { those_linked result ≡ filter (links gap time) windows.now.items }
 {
     match found {
         Placed::New(_) => Linked::None,
-        Placed::Extends(i) => Linked::One(windows[i]),
-        Placed::Joins(i) => Linked::Two(windows[i], windows[i + 1]),
+        Placed::Extends(i) => Linked::One(windows.get(i)),
+        Placed::Joins(i) => Linked::Two(windows.get(i), windows.get(i + 1)),
     }
 }
 
@@ -82,11 +85,12 @@ pub(crate) fn joined(session: Window, next: Window) -> Window
     }
 }
 
-// How many windows end by a time, where those come first. Mostly they are all, or all but the newest.
-fn ended_by(windows: &[Window], time: i64) -> usize
-    requires { IsPartitionedBy (ends_by time) windows.now }
-    ensures count { result ≡ length (filter (ends_by time) windows.now) }
-    ensures within { result ≤ length windows.now }
+/// How many windows end by a time, where those come first. Mostly they are all, or all but the newest.
+pub(crate) fn ended_by(windows: &TieredList<Window>, time: i64) -> usize
+    requires { IsPartitionedBy (ends_by time) windows.now.items }
+    ensures count { result ≡ length (filter (ends_by time) windows.now.items) }
+    ensures within { result ≤ length windows.now.items }
+    ensures countable { length windows.now.items < 2 ^ 64 }
 {
     let count = windows.len();
     if is_ended_at(windows, count, time) {
@@ -94,16 +98,35 @@ fn ended_by(windows: &[Window], time: i64) -> usize
     } else if is_ended_at(windows, count - 1, time) {
         count - 1
     } else {
-        windows.partition_point(|w| w.end <= time)
+        count_ended(windows, time)
     }
 }
 
-// Whether the window in front of a place ends by a time, if there is one.
-fn is_ended_at(windows: &[Window], place: usize, time: i64) -> bool
-    requires { place ≤ length windows.now }
-    ensures { result ≡ spec.is_ended_at time windows.now place }
+// How many windows end by a time, where those come first, in whichever half they end.
+fn count_ended(windows: &TieredList<Window>, time: i64) -> usize
+    requires { IsPartitionedBy (ends_by time) windows.now.items }
+    ensures count { result ≡ length (filter (ends_by time) windows.now.items) }
+    ensures within { result ≤ length windows.now.items }
 {
-    place == 0 || ends_by(windows[place - 1], time)
+    let mut low = 0;
+    let mut high = windows.len();
+    while low < high {
+        let middle = low + (high - low) / 2;
+        if ends_by(windows.get(middle), time) {
+            low = middle + 1;
+        } else {
+            high = middle;
+        }
+    }
+    low
+}
+
+// Whether the window in front of a place ends by a time, if there is one.
+fn is_ended_at(windows: &TieredList<Window>, place: usize, time: i64) -> bool
+    requires { place ≤ length windows.now.items }
+    ensures { result ≡ spec.is_ended_at time windows.now.items place }
+{
+    place == 0 || ends_by(windows.get(place - 1), time)
 }
 
 // Whether a window ends by a time.
@@ -114,10 +137,10 @@ fn ends_by(window: Window, time: i64) -> bool
 }
 
 // Whether there is a window at a place, and it starts before a time.
-fn starts_before(windows: &[Window], i: usize, time: i64) -> bool
-    ensures { result ≡ spec.starts_before time windows.now i }
+fn starts_before(windows: &TieredList<Window>, i: usize, time: i64) -> bool
+    ensures { result ≡ spec.starts_before time windows.now.items i }
 {
-    i < windows.len() && is_before(windows[i], time)
+    i < windows.len() && is_before(windows.get(i), time)
 }
 
 // Whether a window starts before a time.
@@ -128,11 +151,8 @@ fn is_before(window: Window, time: i64) -> bool
 }
 
 /// Whether there is a window, and the first ends by a time.
-pub(crate) fn first_ends_by(windows: &[Window], time: i64) -> bool
-    ensures { result ≡ spec.first_ends_by time windows.now }
+pub(crate) fn first_ends_by(windows: &TieredList<Window>, time: i64) -> bool
+    ensures { result ≡ spec.first_ends_by time windows.now.items }
 {
-    match windows.first() {
-        Some(first) => first.end <= time,
-        None => false,
-    }
+    windows.len() > 0 && ends_by(windows.get(0), time)
 }

@@ -1,19 +1,20 @@
 //! The sessions of one key.
 
-ghost use Rattle.std.specs.Prelude.{◌≡◌, ◌<◌, ℤ, pos, ◌≤ℤ◌, List, [], ◌∷◌, length, filter, Contains, IfOk, true, Some, slice_get, ◌⊎◌, ◌+◌, ◌≤◌, insert, vec_len, vec_capacity};
+ghost use Rattle.std.specs.Prelude.{◌≡◌, ◌<◌, ℤ, pos, ◌≤ℤ◌, List, [], ◌∷◌, length, filter, Contains, IfOk, true, Some, slice_get, ◌⊎◌, ◌+◌};
 ghost use Rattle.std.specs.List.Sorted.{IsPartitionedBy};
 ghost use Rattle.std.specs.List.{list_any};
 ghost use Rattle.wsm_windows.specs.Windows.{IsTime, greatest_span, has_inside};
 ghost use Rattle.wsm_semantics.specs.Sessions.{with_session, session_of, links, ends_after, ends_by};
 ghost use Rattle.wsm_sessions.specs.Classes.{IsClass};
 ghost use Rattle.wsm_sessions.specs.Live.{Fits, IsApart, times_left, IsOfTimes};
-ghost use Rattle.wsm_sessions.specs.Placing.{placed, those_linked, HasOneMore, is_any_linked, joined_at};
+ghost use Rattle.wsm_sessions.specs.Placing.{placed, those_linked, is_any_linked, joined_at};
 ghost use Rattle.wsm_sessions.specs.Placing as spec;
 
-use crate::linking::{alone, extended, find, first_ends_by, joined, linked_at};
+use crate::linking::{alone, ended_by, extended, find, first_ends_by, joined, linked_at};
 use crate::placed::{Entry, Linked, Placed};
 use std::alloc::{AllocError, Global};
 use std::marker::Model;
+use wsm_tiers::TieredList;
 use wsm_windows::Window;
 
 /// The sessions of the times that were placed and not dropped, by rising start. A clause sees their
@@ -21,23 +22,21 @@ use wsm_windows::Window;
 #[derive(Drop)]
 pub struct Sessions {
     gap: i64,
-    room: usize,
-    windows: Vec<Window>,
+    windows: TieredList<Window>,
     // What was noted last.
     note: usize,
 }
 
 impl Model for Sessions {
-    ghost use Rattle.std.specs.Prelude.{◌≤◌, ◌≤ℤ◌, pos, vec_len, vec_capacity};
+    ghost use Rattle.std.specs.Prelude.{◌≤ℤ◌, pos};
     ghost use Rattle.wsm_windows.specs.Windows.{greatest_span};
     ghost use Rattle.wsm_sessions.specs.Live.{Live, IsOfTimes};
 
     ghost Value = { Live };
 
-    ghost view = { λ a. record { gap = a.gap; room = a.room; windows = a.windows.items } };
+    ghost view = { λ a. record { gap = a.gap; room = a.windows.room; windows = a.windows.items } };
 
-    ghost invariant = { λ a. (pos 1 ≤ℤ a.gap) × (a.gap ≤ℤ greatest_span) × IsOfTimes a.gap a.windows.items
-        × (vec_len a.windows ≤ a.room) × (a.room ≤ vec_capacity a.windows) };
+    ghost invariant = { λ a. (pos 1 ≤ℤ a.gap) × (a.gap ≤ℤ greatest_span) × IsOfTimes a.gap a.windows.items };
 }
 
 impl Sessions {
@@ -54,8 +53,7 @@ impl Sessions {
     {
         Ok(Sessions {
             gap,
-            room,
-            windows: Vec::with_capacity(alloc, room)?,
+            windows: TieredList::open(alloc, room)?,
             note: 0,
         })
     }
@@ -77,7 +75,7 @@ impl Sessions {
         requires { IsTime time }
         ensures { result ≡ spec.admits self.now time }
     {
-        self.len() < self.room || self.is_linked(time)
+        self.len() < self.windows.room() || self.is_linked(time)
     }
 
     // Whether a session has a time less than a gap from this one.
@@ -115,7 +113,7 @@ impl Sessions {
         self.put(time, found);
         Entry {
             linked,
-            session: self.windows[found.index()],
+            session: self.windows.get(found.index()),
         }
     }
 
@@ -161,7 +159,7 @@ impl Sessions {
         // Of whatever times it has the sessions, this is a class of the chains of links.
         ensures class { (times : List ℤ) → Fits self.now times → IsClass self.now.gap times result }
     {
-        self.windows[i]
+        self.windows.get(i)
     }
 
     /// How many sessions there are.
@@ -176,58 +174,41 @@ impl Sessions {
 
 // Puts a time into sessions, where it was found what it does to them, and room is left or it is
 // linked to one.
-fn put_time(windows: &mut Vec<Window>, gap: i64, time: i64, found: Placed)
+fn put_time(windows: &mut TieredList<Window>, gap: i64, time: i64, found: Placed)
     requires gap_low { pos 1 ≤ℤ gap }
     requires gap_high { gap ≤ℤ greatest_span }
     requires time { IsTime time }
     requires sessions { IsOfTimes gap windows.old.items }
     requires found { found ≡ placed gap time windows.old.items }
-    requires room { (is_any_linked gap time windows.old.items ≡ true) ⊎ (vec_len windows.old < vec_capacity windows.old) }
+    requires room { (is_any_linked gap time windows.old.items ≡ true) ⊎ (length windows.old.items < windows.old.room) }
     ensures items { windows.new.items ≡ with_session gap time windows.old.items }
-    ensures len { HasOneMore gap time windows.old.items (vec_len windows.old) (vec_len windows.new) }
-    ensures capacity { vec_capacity windows.new ≡ vec_capacity windows.old }
+    ensures room { windows.new.room ≡ windows.old.room }
 {
     match found {
-        Placed::New(i) => begin(windows, i, alone(gap, time)),
-        Placed::Extends(i) => windows[i] = extended(windows[i], gap, time),
+        Placed::New(i) => windows.insert(i, alone(gap, time)),
+        Placed::Extends(i) => windows.set(i, extended(windows.get(i), gap, time)),
         Placed::Joins(i) => join(windows, i),
     }
 }
 
-// Puts a session in at a place. Mostly that is behind all others, where none is moved.
-fn begin(windows: &mut Vec<Window>, i: usize, session: Window)
-    requires within { i ≤ vec_len windows.old }
-    requires room { vec_len windows.old < vec_capacity windows.old }
-    ensures items { windows.new.items ≡ insert windows.old.items i session }
-    ensures len { vec_len windows.new ≡ vec_len windows.old + 1 }
-    ensures capacity { vec_capacity windows.new ≡ vec_capacity windows.old }
-{
-    if i == windows.len() {
-        windows.push_reserved(session);
-    } else {
-        windows.insert(i, session).unwrap();
-    }
-}
-
 // Puts the sessions at a place and at the next together.
-fn join(windows: &mut Vec<Window>, i: usize)
-    requires { i + 1 < vec_len windows.old }
+fn join(windows: &mut TieredList<Window>, i: usize)
+    requires { i + 1 < length windows.old.items }
     ensures items { windows.new.items ≡ joined_at windows.old.items i }
-    ensures len { vec_len windows.new ≤ vec_len windows.old }
-    ensures capacity { vec_capacity windows.new ≡ vec_capacity windows.old }
+    ensures room { windows.new.room ≡ windows.old.room }
 {
-    let next = windows.remove(i + 1);
-    windows[i] = joined(windows[i], next);
+    let first = windows.remove(i);
+    windows.set(i, joined(first, windows.get(i)));
 }
 
 // Keeps the windows that end after a limit, where those that end by it come first.
-fn keep_past(windows: &mut Vec<Window>, limit: i64)
+fn keep_past(windows: &mut TieredList<Window>, limit: i64)
     requires { IsPartitionedBy (ends_by limit) windows.old.items }
     ensures items { windows.new.items ≡ filter (ends_after limit) windows.old.items }
-    ensures len { vec_len windows.new ≤ vec_len windows.old }
-    ensures capacity { vec_capacity windows.new ≡ vec_capacity windows.old }
+    ensures room { windows.new.room ≡ windows.old.room }
 {
     if first_ends_by(windows, limit) {
-        windows.retain(|w| w.end > limit);
+        let count = ended_by(windows, limit);
+        windows.drop_first(count);
     }
 }

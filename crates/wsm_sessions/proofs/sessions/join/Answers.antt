@@ -1,4 +1,5 @@
-use Rattle.std.proofs.Common.{◌≡◌, ◌+◌, get_or, ◌∙◌, arith}
+use Rattle.std.proofs.Common.{◌≡◌, get_or, sym, ◌∙◌}
+use Rattle.std.proofs.lemmas.Option.{get_or_from_slice_get}
 use Rattle.std.specs.Prelude.{slice_set}
 use Rattle.std.specs.List.{remove}
 use Rattle.wsm_windows.specs.Windows.{window}
@@ -8,7 +9,10 @@ use Rattle.wsm_sessions.proofs.sessions.join.Goals as goal
 pub returns-clause-items : goal.returns-clause-items
 returns-clause-items c =
     let ws = c.args.windows.now.items in
-    let first : c.index.result.now ≡ get_or (remove ws (c.args.i + 1)) c.args.i c.index.result.now = rw c.remove-next.ensures.items at c.index.ensures in
-    let both : c.joined.result ≡ window (get_or (remove ws (c.args.i + 1)) c.args.i c.index.result.now).start (get_or ws (c.args.i + 1) c.remove-next.result).end =
-    c.joined.ensures ∙ (λ k. window (first k).start (c.remove-next.ensures.value k).end) in
-    (λ k. slice_set (c.remove-next.ensures.items k) c.args.i (both k)) ∙ joined_edits ws c.args.i c.index.result.now c.remove-next.result (omega (arith, c.requires, c.args.windows.now.ok.0))
+    let i = c.args.i in
+    let w = c.remove-first.result in
+    let v = c.get.result in
+    let first : w ≡ get_or ws i w = sym (get_or_from_slice_get ws i w w c.remove-first.ensures.item) in
+    let second : v ≡ get_or (remove ws i) i v = sym (get_or_from_slice_get (remove ws i) i v v (rw c.remove-first.ensures.items at c.get.ensures)) in
+    let both : c.joined.result ≡ window (get_or ws i w).start (get_or (remove ws i) i v).end = c.joined.ensures ∙ (λ k. window (first k).start (second k).end) in
+    c.set.ensures.items ∙ (λ k. slice_set (c.remove-first.ensures.items k) i (both k)) ∙ joined_edits ws i w v c.requires

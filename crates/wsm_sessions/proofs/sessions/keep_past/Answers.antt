@@ -1,17 +1,18 @@
-use Rattle.std.proofs.Common.{◌≡◌, false, ap, sym, ◌∙◌, SFits, w64, to_z-of_z, rules}
-use Rattle.std.proofs.lemmas.Fn.{filter_same}
-use Rattle.wsm_semantics.specs.Sessions.{ends_after}
+use Rattle.std.proofs.Common.{◌≡◌, false, ap, drop, sym, ◌∙◌, SFits, w64, to_z-of_z}
 use Rattle.wsm_sessions.specs.Placing.{first_ends_by}
-use Rattle.wsm_sessions.proofs.SessionEdits.{first_after}
+use Rattle.wsm_sessions.proofs.SessionEdits.{first_after, left_after}
 use Rattle.wsm_sessions.proofs.sessions.keep_past.Goals as goal
 
--- the closure answers the test, and stays as it was
 pub returns-then-first_ends_by-clause-items : goal.returns-then-first_ends_by-clause-items
-returns-then-first_ends_by-clause-items c = filter_same _ (ends_after c.args.limit) _ (λ w b g h. (search rules, search rules)) _ _ c.retain.ensures.filtered
+returns-then-first_ends_by-clause-items c =
+    let fits : SFits w64 c.args.limit = c.ranges.limit in
+    let ws = c.args.windows.now.items in
+    let count = simp to_z-of_z at c.ended_by-count.ensures.count in
+    c.drop_first.ensures.items ∙ ap (λ n. drop n ws) count ∙ sym (left_after c.args.limit ws c.requires)
 
 pub returns-else-first_ends_by-clause-items : goal.returns-else-first_ends_by-clause-items
 returns-else-first_ends_by-clause-items c =
     let fits : SFits w64 c.args.limit = c.ranges.limit in
     let told = simp to_z-of_z at c.first_ends_by.ensures in
-    let first : first_ends_by c.args.limit c.args.windows.now.items ≡ false = sym (told ∙ ap (first_ends_by c.args.limit) c.deref.ensures.value) ∙ c.if-first_ends_by.false in
+    let first : first_ends_by c.args.limit c.args.windows.now.items ≡ false = sym told ∙ c.if-first_ends_by.false in
     sym (first_after c.args.limit c.args.windows.now.items c.requires first)

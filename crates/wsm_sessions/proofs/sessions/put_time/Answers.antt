@@ -1,5 +1,6 @@
-use Rattle.std.proofs.Common.{◌≡◌, ◌∙◌, ◌<◌, ◌⊎◌, ◌+ℤ◌, ℕ, Bool, true, false, List, inl, inr, sym, ap, arith, SFits, w64, to_z-of_z}
+use Rattle.std.proofs.Common.{◌≡◌, ◌∙◌, ◌<◌, ◌⊎◌, ◌+ℤ◌, ℕ, Bool, true, false, List, inl, inr, sym, ap, SFits, w64, to_z-of_z}
 use Rattle.std.proofs.lemmas.Bool.{true≢false}
+use Rattle.std.proofs.lemmas.Option.{get_or_from_slice_get}
 use Rattle.std.specs.Prelude.{insert, slice_set}
 use Rattle.std.specs.Int.{int_max, int_min}
 use Rattle.wsm_windows.specs.declared.window.Window.{Window}
@@ -12,13 +13,13 @@ room_left : (b : Bool) (n m : ℕ) → (b ≡ true) ⊎ (n < m) → b ≡ false 
 room_left b n m (inl l) h = absurd (true≢false (sym l ∙ h))
 room_left b n m (inr r) h = r
 
-pub begin-requires-clause-within : goal.begin-requires-clause-within
-begin-requires-clause-within c =
+pub insert-requires-clause-at : goal.insert-requires-clause-at
+insert-requires-clause-at c =
     let h = begun c.args.gap c.requires.gap_low c.args.time _ (apart_of c.args.gap c.requires.gap_low c.args.windows.now.items c.requires.sessions) c.in-New.i (sym c.requires.found ∙ c.in-New.is) in
-    omega (arith, h.0, c.args.windows.now.ok.0)
+    h.0
 
-pub begin-requires-clause-room : goal.begin-requires-clause-room
-begin-requires-clause-room c =
+pub insert-requires-clause-room : goal.insert-requires-clause-room
+insert-requires-clause-room c =
     let h = begun c.args.gap c.requires.gap_low c.args.time _ (apart_of c.args.gap c.requires.gap_low c.args.windows.now.items c.requires.sessions) c.in-New.i (sym c.requires.found ∙ c.in-New.is) in
     room_left _ _ _ c.requires.room h.1.0
 
@@ -29,22 +30,17 @@ returns-in-New-clause-items c =
     let ws : List Window = c.args.windows.now.items in
     let h = begun c.args.gap c.requires.gap_low c.args.time _ (apart_of c.args.gap c.requires.gap_low c.args.windows.now.items c.requires.sessions) c.in-New.i (sym c.requires.found ∙ c.in-New.is) in
     let alone : c.alone.result ≡ window c.args.time (c.args.time +ℤ c.args.gap) = simp to_z-of_z at c.alone.ensures in
-    c.begin.ensures.items ∙ ap (insert ws c.in-New.i) alone ∙ h.1.1
+    c.insert.ensures.items ∙ ap (insert ws c.in-New.i) alone ∙ h.1.1
 
-pub returns-in-New-clause-len : goal.returns-in-New-clause-len
-returns-in-New-clause-len c =
-    let h = begun c.args.gap c.requires.gap_low c.args.time _ (apart_of c.args.gap c.requires.gap_low c.args.windows.now.items c.requires.sessions) c.in-New.i (sym c.requires.found ∙ c.in-New.is) in
-    inr (h.1.0, c.begin.ensures.len)
-
-pub index-requires : goal.index-requires
-index-requires c =
+pub get-requires : goal.get-requires
+get-requires c =
     let h = extended c.args.gap c.requires.gap_low c.args.time _ (apart_of c.args.gap c.requires.gap_low c.args.windows.now.items c.requires.sessions) c.in-Extends.i (sym c.requires.found ∙ c.in-Extends.is) in
-    omega (arith, h.0, c.args.windows.now.ok.0)
+    h.0
 
-pub index_mut-requires : goal.index_mut-requires
-index_mut-requires c =
+pub set-requires : goal.set-requires
+set-requires c =
     let h = extended c.args.gap c.requires.gap_low c.args.time _ (apart_of c.args.gap c.requires.gap_low c.args.windows.now.items c.requires.sessions) c.in-Extends.i (sym c.requires.found ∙ c.in-Extends.is) in
-    omega (arith, h.0, c.args.windows.now.ok.0)
+    h.0
 
 pub returns-in-Extends-clause-items : goal.returns-in-Extends-clause-items
 returns-in-Extends-clause-items c =
@@ -52,14 +48,14 @@ returns-in-Extends-clause-items c =
     let gap : SFits w64 c.args.gap = c.ranges.gap in
     let ws : List Window = c.args.windows.now.items in
     let h = extended c.args.gap c.requires.gap_low c.args.time _ (apart_of c.args.gap c.requires.gap_low c.args.windows.now.items c.requires.sessions) c.in-Extends.i (sym c.requires.found ∙ c.in-Extends.is) in
-    let longer : c.extended.result ≡ window (int_min c.index.result.now.start c.args.time) (int_max c.index.result.now.end (c.args.time +ℤ c.args.gap)) = simp to_z-of_z at c.extended.ensures in
-    let read = c.index.ensures in
-    ap (slice_set ws c.in-Extends.i) (longer ∙ ap (λ (w : Window). window (int_min w.start c.args.time) (int_max w.end (c.args.time +ℤ c.args.gap))) read) ∙ h.1 c.index.result.now
+    let longer : c.extended.result ≡ window (int_min c.get.result.start c.args.time) (int_max c.get.result.end (c.args.time +ℤ c.args.gap)) = simp to_z-of_z at c.extended.ensures in
+    let read = sym (get_or_from_slice_get ws c.in-Extends.i c.get.result c.get.result c.get.ensures) in
+    c.set.ensures.items ∙ ap (slice_set ws c.in-Extends.i) (longer ∙ ap (λ (w : Window). window (int_min w.start c.args.time) (int_max w.end (c.args.time +ℤ c.args.gap))) read) ∙ h.1 c.get.result
 
 pub join-requires : goal.join-requires
 join-requires c =
     let h = joined c.args.gap c.requires.gap_low c.args.time _ (apart_of c.args.gap c.requires.gap_low c.args.windows.now.items c.requires.sessions) c.in-Joins.i (sym c.requires.found ∙ c.in-Joins.is) in
-    omega (arith, h.0, c.args.windows.now.ok.0)
+    h.0
 
 pub returns-in-Joins-clause-items : goal.returns-in-Joins-clause-items
 returns-in-Joins-clause-items c =

@@ -1,4 +1,4 @@
-use Rattle.std.proofs.Common.{ap, ◌∙◌, sym, arith, SFits, w64, to_z-of_z}
+use Rattle.std.proofs.Common.{ap, ◌∙◌, sym, SFits, w64, to_z-of_z}
 use Rattle.std.specs.Prelude.{filter}
 use Rattle.wsm_semantics.specs.Sessions.{ends_after}
 use Rattle.wsm_semantics.proofs.LiveTimes.{sessions-live}
@@ -17,8 +17,6 @@ invariant_of-self c =
       c.self.invariant.0,
       c.self.invariant.1,
       record { times = times_left c.self.inside.gap c.args.limit of.times; are = items ∙ ap (filter (ends_after c.args.limit)) of.are ∙ sym (sessions-live c.args.limit c.self.inside.gap c.self.invariant.0 of.times) },
-      omega (arith, c.keep_past.ensures.len, c.self.invariant.3),
-      omega (arith, c.keep_past.ensures.capacity, c.self.invariant.4),
     )
 
 pub returns-clause-fits : goal.returns-clause-fits

@@ -9,7 +9,7 @@ returns-in-New c =
     let gap : SFits w64 c.self.inside.gap = search rules in
     let ws : List Window = c.self.inside.windows.items in
     let apart = apart_of c.self.inside.gap c.self.invariant.0 ws c.self.invariant.2 in
-    let found = sym (simp (to_z-of_z, c.deref.ensures.value) at c.find.ensures) ∙ c.in-New.is in
+    let found = sym (simp to_z-of_z at c.find.ensures.found) ∙ c.in-New.is in
     rw (← c.self.view_is) (sym (begun c.self.inside.gap c.self.invariant.0 c.args.time ws apart _ found).1.0)
 
 pub returns-in-Extends : goal.returns-in-Extends
@@ -18,7 +18,7 @@ returns-in-Extends c =
     let gap : SFits w64 c.self.inside.gap = search rules in
     let ws : List Window = c.self.inside.windows.items in
     let apart = apart_of c.self.inside.gap c.self.invariant.0 ws c.self.invariant.2 in
-    let found = sym (simp (to_z-of_z, c.deref.ensures.value) at c.find.ensures) ∙ c.in-Extends.is in
+    let found = sym (simp to_z-of_z at c.find.ensures.found) ∙ c.in-Extends.is in
     rw (← c.self.view_is) (extends_linked c.self.inside.gap c.self.invariant.0 c.args.time ws apart _ found)
 
 pub returns-in-Joins : goal.returns-in-Joins
@@ -27,5 +27,5 @@ returns-in-Joins c =
     let gap : SFits w64 c.self.inside.gap = search rules in
     let ws : List Window = c.self.inside.windows.items in
     let apart = apart_of c.self.inside.gap c.self.invariant.0 ws c.self.invariant.2 in
-    let found = sym (simp (to_z-of_z, c.deref.ensures.value) at c.find.ensures) ∙ c.in-Joins.is in
+    let found = sym (simp to_z-of_z at c.find.ensures.found) ∙ c.in-Joins.is in
     rw (← c.self.view_is) (joins_linked c.self.inside.gap c.self.invariant.0 c.args.time ws apart _ found)
