@@ -290,9 +290,53 @@ fn search(row: &SlotRow, slots: &Slots, place: Place) -> Result<usize, usize>
     }
 }
 
-// How many entries stand before a place. In which half it is can't be foretold, so no branch is taken
-// by it.
+// How many entries stand before a place.
 fn count_before(row: &SlotRow, slots: &Slots, place: Place) -> usize
+    requires { AreStored slots.now.slots row.now.row }
+    ensures count { result ≡ before place_cmp place (shown slots.now.slots row.now.row) }
+    ensures within { result ≤ length row.now.row }
+{
+    match row.numbers() {
+        Some(numbers) => count_in(numbers, slots, place),
+        None => count_by_number(row, slots, place),
+    }
+}
+
+// How many entries stand before a place, where the numbers lie side by side. In which half it is can't
+// be foretold, so no branch is taken by it.
+fn count_in(numbers: &[u32], slots: &Slots, place: Place) -> usize
+    requires { AreStored slots.now.slots numbers.now }
+    ensures count { result ≡ before place_cmp place (shown slots.now.slots numbers.now) }
+    ensures within { result ≤ length numbers.now }
+{
+    let mut low = 0;
+    let mut size = numbers.len();
+    while size > 1 {
+        let half = size / 2;
+        if is_before(place_of(numbers, slots, low + half - 1), place) {
+            low += half;
+        }
+        size -= half;
+    }
+    if size > 0 && is_before(place_of(numbers, slots, low), place) {
+        low + 1
+    } else {
+        low
+    }
+}
+
+// The place of the entry of a number, where the numbers lie side by side.
+fn place_of(numbers: &[u32], slots: &Slots, at: usize) -> Place
+    requires stored { AreStored slots.now.slots numbers.now }
+    requires within { at < length numbers.now }
+    ensures { option_map (λ e. e.0) (slice_get (shown slots.now.slots numbers.now) at) ≡ Some result }
+{
+    slots.held_place(numbers[at] as usize)
+}
+
+// How many entries stand before a place, where each number is asked for. No branch is taken by what it
+// finds here either.
+fn count_by_number(row: &SlotRow, slots: &Slots, place: Place) -> usize
     requires { AreStored slots.now.slots row.now.row }
     ensures count { result ≡ before place_cmp place (shown slots.now.slots row.now.row) }
     ensures within { result ≤ length row.now.row }

@@ -1,6 +1,6 @@
 //! Slots in a row, and those that are free.
 
-ghost use Rattle.std.specs.Prelude.{◌≡◌, ◌+◌, ◌++◌, ◌<◌, ◌≤◌, ◌^◌, ℕ, [], Some, IfOk, if◌then◌else◌, drop, insert, length, nat_lt, slice_get, take, vec_len, vec_capacity};
+ghost use Rattle.std.specs.Prelude.{◌≡◌, ◌+◌, ◌++◌, ◌<◌, ◌≤◌, ◌^◌, ℕ, [], Some, IfOk, IfSome, if◌then◌else◌, drop, insert, length, nat_lt, slice_get, take, vec_len, vec_capacity};
 ghost use Rattle.std.specs.List.{remove};
 ghost use Rattle.wsm_panes.specs.Stored.{listed};
 
@@ -65,6 +65,13 @@ impl SlotRow {
         ensures once { listed result self.now.row ≡ 1 }
     {
         self.row.get(at) as usize
+    }
+
+    /// The slots of the row, where so few are there that they lie side by side.
+    pub(crate) fn numbers(&self) -> Option<&[u32]>
+        ensures { IfSome result (λ numbers. numbers.now ≡ self.now.row) }
+    {
+        self.row.as_row()
     }
 
     /// Has the slot that was freed last stand at a number, in front of those from there on, and gives it.

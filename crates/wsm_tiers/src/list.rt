@@ -1,6 +1,6 @@
 //! A list with room for a number of items.
 
-ghost use Rattle.std.specs.Prelude.{◌≡◌, ◌+◌, ◌-◌, ◌<◌, ◌≤◌, [], ◌++◌, IfOk, Some, drop, insert, length, set, slice_get, vec_capacity, vec_len};
+ghost use Rattle.std.specs.Prelude.{◌≡◌, ◌+◌, ◌-◌, ◌<◌, ◌≤◌, [], ◌++◌, IfOk, IfSome, Some, drop, insert, length, set, slice_get, vec_capacity, vec_len};
 ghost use Rattle.std.specs.List.{remove};
 
 use crate::far::{Far, TIER};
@@ -76,6 +76,17 @@ impl<T: Copy + Drop> TieredList<T> {
             self.near[at]
         } else {
             self.far.get(at - TIER)
+        }
+    }
+
+    /// The items, where no more are there than lie in a row.
+    pub fn as_row(&self) -> Option<&[T]>
+        ensures { IfSome result (λ row. row.now ≡ self.now.items) }
+    {
+        if self.len <= TIER {
+            Some(self.near.as_slice())
+        } else {
+            None
         }
     }
 

@@ -2,7 +2,7 @@ use Rattle.std.proofs.Common.{◌≤◌, ◌+◌, length}
 use Rattle.wsm_windows.specs.Places.{place_cmp}
 use Rattle.wsm_panes.specs.Place.{before}
 use Rattle.wsm_panes.specs.Stored.{shown}
-use Rattle.wsm_panes.proofs.list.count_before.Given as goal
+use Rattle.wsm_panes.proofs.list.count_by_number.Given as goal
 
 -- the entries below `low` stand before the place, and those from `low + size` on don't
 abbrev pub invariant-loop-size : goal.invariant-loop-size

@@ -6,8 +6,8 @@ use Rattle.wsm_panes.specs.Place.{before}
 use Rattle.wsm_panes.specs.Stored.{shown}
 use Rattle.wsm_panes.proofs.Sorted.{before_within, passes_gt, stops}
 use Rattle.wsm_panes.proofs.StoredEdits.{entry_there, length_is, place_there}
-use Rattle.wsm_panes.proofs.list.count_before.Goals as goal
-use Rattle.wsm_panes.proofs.list.count_before.Goals.{then-is_before, else-is_before, else-size-gt0-via-then-size-gt0+else-is_before-2, else-size-gt0-via-else-size-gt0}
+use Rattle.wsm_panes.proofs.list.count_by_number.Goals as goal
+use Rattle.wsm_panes.proofs.list.count_by_number.Goals.{then-is_before, else-is_before, else-size-gt0-via-then-size-gt0+else-is_before-2, else-size-gt0-via-else-size-gt0}
 
 pub loop-size-init : goal.loop-size-init
 loop-size-init c =
