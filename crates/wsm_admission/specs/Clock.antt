@@ -91,6 +91,11 @@ abbrev pub is_key : Declared → Option ℕ → Bool
 is_key declared None = false
 is_key declared (Some key) = nat_lt key (length declared.keys)
 
+-- the values of an event are one of each declared field; a watermark has none
+abbrev pub fits_declared : Declared → Event → Bool
+fits_declared declared (Record key time values) = fit_fields declared.fields values
+fits_declared declared (Watermark source time) = true
+
 -- the first rule that refuses a record, at a watermark and after a number of admitted records
 abbrev pub record_refusal : Clock → Shape → Declared → ℤ → ℕ → Option ℕ → ℤ → List Value → Option Refusal
 record_refusal c shape declared mark admitted key time values =

@@ -1,11 +1,12 @@
 -- Cells by their places, and the values of a record read one by one.
-use Rattle.std.proofs.Common.{◌≡◌, ℕ, zero, suc, ◌+◌, List, [], ◌∷◌, ◌++◌, drop, Option, Some, None, Result, Ok, Err, refl, sym, ap, arith, append_assoc, add-one}
-use Rattle.std.specs.Prelude.{slice_get, IsSome, option_map, option_and_then, bytes_eq, Bool, true, false, if◌then◌else◌}
+use Rattle.std.proofs.Common.{◌≡◌, ℕ, zero, suc, ◌+◌, ◌<◌, ◌∙◌, List, [], ◌∷◌, ◌++◌, ◌&&◌, drop, length, take, Option, Some, None, Result, Ok, Err, refl, sym, ap, arith, append_assoc, add-one}
+use Rattle.std.specs.Prelude.{slice_get, slice_set, IsSome, option_map, option_and_then, bytes_eq, Bool, true, false, if◌then◌else◌}
+use Rattle.std.proofs.Math.Bool.{and-true, and_assoc}
 use Rattle.std.proofs.lemmas.Slice.Eq.{bytes_eq-Decides}
 use Rattle.csv.specs.Records.{field_at}
 use Rattle.wsm_record.specs.declared.event.Value.{Value}
 use Rattle.wsm_record.specs.declared.event.RowFault.{RowFault}
-use Rattle.wsm_record.specs.Schema.{Declared, DeclaredField}
+use Rattle.wsm_record.specs.Schema.{Declared, DeclaredField, fit_fields, fits_type}
 use Rattle.wsm_record.specs.declared.event.RowFault.TheVariants.{BadTag}
 use Rattle.wsm_csv.specs.declared.row.Tag.{Tag}
 use Rattle.wsm_csv.specs.declared.row.Tag.TheVariants.{Record, Watermark}
@@ -57,6 +58,20 @@ pub read_on-fault : (values : List Value) (fields : List DeclaredField) (cells :
     → slice_get fields i ≡ Some field → slice_get cells i ≡ Some cell → value_of field.type cell ≡ Err f
     → read_on values (drop i fields) (drop i cells) ≡ Err f
 read_on-fault values fields cells i field cell f e h k = rw (drop-slice_get fields i field e, drop-slice_get cells i cell h, k) refl
+
+fits-suc : (fields : List DeclaredField) (old : List Value) (i : ℕ) (field : DeclaredField) (v : Value) → slice_get fields i ≡ Some field → i < length old
+    → fit_fields (take (suc i) fields) (take (suc i) (slice_set old i v)) ≡ (fit_fields (take i fields) (take i old) && fits_type field.type v)
+fits-suc [] old i field v e h = cc
+fits-suc (f ∷ fs) [] i field v e h = absurd (omega (arith, h))
+fits-suc (f ∷ fs) (w ∷ ws) zero field v e h = let same : f ≡ field = cc in rw same (and-true (fits_type field.type v))
+fits-suc (f ∷ fs) (w ∷ ws) (suc i) field v e h =
+    ap (λ (b : Bool). fits_type f.type w && b) (fits-suc fs ws i field v e (omega (arith, h)))
+    ∙ sym (and_assoc (fits_type f.type w) (fit_fields (take i fs) (take i ws)) (fits_type field.type v))
+
+-- values fit up to one that is put where another stood if those in front of it do, and it is of its field's type
+pub fits-put : (fields : List DeclaredField) (old : List Value) (i : ℕ) (field : DeclaredField) (v : Value) → slice_get fields i ≡ Some field → i < length old
+    → fit_fields (take (i + 1) fields) (take (i + 1) (slice_set old i v)) ≡ (fit_fields (take i fields) (take i old) && fits_type field.type v)
+fits-put fields old i field v e h = rw add-one (fits-suc fields old i field v e h)
 
 pub row_tag-field_at : (cells : List (List ℕ)) → row_tag cells ≡ option_and_then tag_of (field_at cells 0)
 unfolding field_at

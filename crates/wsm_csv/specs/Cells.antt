@@ -5,7 +5,7 @@ use Rattle.wsm_record.specs.declared.event.Value.TheVariants as values
 use Rattle.wsm_record.specs.declared.event.RowFault.{RowFault}
 use Rattle.wsm_record.specs.declared.event.RowFault.TheVariants.{BadTag, CellCount, BadNumber, BadName}
 use Rattle.wsm_record.specs.Event.{Event, Record, Watermark}
-use Rattle.wsm_record.specs.Schema.{Declared, DeclaredField, FieldType, Int, Truth, Enum}
+use Rattle.wsm_record.specs.Schema.{Declared, DeclaredField, FieldType, Int, Truth, Enum, fits_type}
 use Rattle.wsm_csv.specs.Number.{number_of}
 
 abbrev pub record_tag : List ℕ
@@ -30,6 +30,10 @@ value_of (Enum names) cell = ok_or (option_map values.Enum (place_of cell names)
 -- the value that was read stands at a place of those that were there
 abbrev pub Puts : Result Value RowFault → ℕ → List Value → List Value → Type 0
 Puts read i old new = (v : Value) × (read ≡ Ok v) × (new ≡ slice_set old i v)
+
+-- whether the value that a cell says is one of the type
+abbrev pub Fits : FieldType → List ℕ → Bool → Type 0
+Fits type cell fits = (v : Value) → value_of type cell ≡ Ok v → fits ≡ fits_type type v
 
 -- what a value that was read goes on as; a fault stays
 abbrev pub then_read : {A B : Type 0} → Result A RowFault → (A → Result B RowFault) → Result B RowFault

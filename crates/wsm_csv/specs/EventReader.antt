@@ -1,5 +1,5 @@
 -- What a reader of events has read, and the room that it keeps.
-use Rattle.std.specs.Prelude.{ℕ, vec_capacity}
+use Rattle.std.specs.Prelude.{ℕ, Bool, vec_capacity}
 use Rattle.wsm_record.specs.Event.{Event, event_of}
 use Rattle.wsm_csv.specs.declared.event_reader.EventReader.{EventReader}
 use Rattle.wsm_csv.specs.InPlace.{room_in}
@@ -7,6 +7,10 @@ use Rattle.wsm_csv.specs.InPlace.{room_in}
 -- the event that was read last
 abbrev pub event_read : EventReader → Event
 event_read r = event_of r.event
+
+-- whether its values were found to fit
+abbrev pub fits_read : EventReader → Bool
+fits_read r = r.values_fit
 
 -- for how many values there is room
 abbrev pub room_of : EventReader → ℕ

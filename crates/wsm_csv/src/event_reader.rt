@@ -1,8 +1,9 @@
 //! Rows read as events, each in place of the last.
 
-ghost use Rattle.std.specs.Prelude.{◌≡◌, ◌≢◌, ◌≤◌, drop, length, vec_capacity, IfErr, OnOk, Err, Ok};
+ghost use Rattle.std.specs.Prelude.{◌≡◌, ◌≢◌, ◌≤◌, drop, length, vec_capacity, IfErr, IfOk, OnOk, Err, Ok};
 ghost use Rattle.csv.specs.Records.{fields_of};
 ghost use Rattle.wsm_record.specs.Event.{Record, event_of};
+ghost use Rattle.wsm_admission.specs.Clock.{fits_declared};
 ghost use Rattle.wsm_csv.specs.Cells.{record_of, watermark_of};
 ghost use Rattle.wsm_csv.specs.InPlace.{room_in, values_in};
 ghost use Rattle.wsm_csv.specs.Refused.{IfFault};
@@ -22,6 +23,8 @@ pub struct EventReader {
     event: Event,
     // The vector of the last record, where the event is a watermark.
     spare: Vec<Value>,
+    // Whether the values of the event fit the schema that it was read by.
+    values_fit: bool,
     // What the times of the last records began with.
     fronts: Fronts,
 }
@@ -30,9 +33,10 @@ impl EventReader {
     ghost use Rattle.std.specs.Prelude.{◌≡◌, ◌≢◌, ◌≤◌, [], length, pos, IfErr, OnOk, Err, None, Ok, Some, slice_get};
     ghost use Rattle.csv.specs.Records.{fields_of};
     ghost use Rattle.wsm_record.specs.Event.{Record, event_of};
+    ghost use Rattle.wsm_admission.specs.Clock.{fits_declared};
     ghost use Rattle.wsm_csv.specs.Cells.{event_of_cells, record_tag};
     ghost use Rattle.wsm_csv.specs.Refused.{IfFault};
-    ghost use Rattle.wsm_csv.specs.EventReader.{event_read, room_of};
+    ghost use Rattle.wsm_csv.specs.EventReader.{event_read, fits_read, room_of};
 
     /// A reader that has read no row. A record without values stands there.
     pub fn new(alloc: Global) -> EventReader
@@ -45,6 +49,7 @@ impl EventReader {
                 values: Vec::new(alloc),
             },
             spare: Vec::new(alloc),
+            values_fit: true,
             fronts: Fronts::new(),
         }
     }
@@ -54,6 +59,7 @@ impl EventReader {
     /// stands there.
     pub fn read(&mut self, schema: &Schema, row: &ByteRecord) -> Result<(), RowRefusal>
         ensures event { OnOk result (event_of_cells schema.now (fields_of row.now) ≡ Ok (event_read self.new)) }
+        ensures fits { OnOk result (fits_read self.new ≡ fits_declared schema.now (event_read self.new)) }
         ensures fault { IfErr result (λ r. IfFault r (λ f. event_of_cells schema.now (fields_of row.now) ≡ Err f)) }
         ensures memory { result ≡ Err RowRefusal.Memory → slice_get (fields_of row.now) 0 ≡ Some record_tag }
         ensures room { length schema.now.fields ≤ room_of self.old → result ≢ Err RowRefusal.Memory }
@@ -62,10 +68,19 @@ impl EventReader {
         match read_tag(row) {
             Some(Tag::Record) => {
                 let fronts = &mut self.fronts;
-                read_record(schema, row, fronts, &mut self.event, &mut self.spare)
+                self.values_fit = read_record(
+                    schema,
+                    row,
+                    fronts,
+                    &mut self.event,
+                    &mut self.spare,
+                )?;
+                Ok(())
             }
             Some(Tag::Watermark) => {
-                Ok(read_watermark(schema, row, &mut self.event, &mut self.spare)?)
+                read_watermark(schema, row, &mut self.event, &mut self.spare)?;
+                self.values_fit = true;
+                Ok(())
             }
             None => Err(RowRefusal::Fault(RowFault::BadTag)),
         }
@@ -78,6 +93,14 @@ impl EventReader {
         &self.event
     }
 
+    /// Whether the values of the event that was read last fit the schema that it was read by. A
+    /// watermark has none to judge.
+    pub fn values_fit(&self) -> bool
+        ensures { result ≡ fits_read self.now }
+    {
+        self.values_fit
+    }
+
     /// The event that was read last, by itself.
     pub(crate) fn into_event(self) -> Event
         ensures { event_of result ≡ event_read self }
@@ -86,7 +109,8 @@ impl EventReader {
     }
 }
 
-// Reads a record in place of an event, up to the first fault.
+// Reads a record in place of an event, up to the first fault. Answers whether its values fit the
+// schema.
 #[inline(always)]
 fn read_record(
     schema: &Schema,
@@ -94,8 +118,9 @@ fn read_record(
     fronts: &mut Fronts,
     event: &mut Event,
     spare: &mut Vec<Value>,
-) -> Result<(), RowRefusal>
+) -> Result<bool, RowRefusal>
     ensures event { OnOk result (record_of schema.now (drop 1 (fields_of row.now)) ≡ Ok (event_of event.new)) }
+    ensures fits { IfOk result (λ fits. fits ≡ fits_declared schema.now (event_of event.new)) }
     ensures fault { IfErr result (λ r. IfFault r (λ f. record_of schema.now (drop 1 (fields_of row.now)) ≡ Err f)) }
     ensures room { length schema.now.fields ≤ room_in event.old (vec_capacity spare.old) → result ≢ Err RowRefusal.Memory }
     ensures kept { room_in event.old (vec_capacity spare.old) ≤ room_in event.new (vec_capacity spare.new) }
@@ -109,10 +134,11 @@ fn read_record(
         .read_number(cell_at(row, 2))
         .ok_or(RowFault::BadNumber)?;
     begin_record(event, spare, key, time);
-    if let Event::Record { values, .. } = event {
-        read_values(fields, row, values)?;
+    match event {
+        Event::Record { values, .. } => read_values(fields, row, values),
+        // A record was begun.
+        Event::Watermark { .. } => Ok(true),
     }
-    Ok(())
 }
 
 // Has a record of a key and a time stand there, with the vector of the record that stood there or else

@@ -4,8 +4,8 @@ ghost use Rattle.std.specs.Prelude.{◌≡◌, ◌≢◌, ◌+◌, ◌<◌, ◌�
 ghost use Rattle.csv.specs.Records.{fields_of};
 ghost use Rattle.wsm_record.specs.Event.{event_of};
 ghost use Rattle.wsm_record.specs.Fields.{field_seen, type_seen};
-ghost use Rattle.wsm_record.specs.Schema.{Truth, Enum};
-ghost use Rattle.wsm_csv.specs.Cells.{Puts, event_of_cells, mark_of, record_tag, time_of, truth_of, value_of, values_of};
+ghost use Rattle.wsm_record.specs.Schema.{Truth, Enum, fit_fields};
+ghost use Rattle.wsm_csv.specs.Cells.{Fits, Puts, event_of_cells, mark_of, record_tag, time_of, truth_of, value_of, values_of};
 ghost use Rattle.wsm_csv.specs.Refused.{IfFault};
 ghost use Rattle.wsm_csv.specs.Tags.{row_tag, tag_of};
 
@@ -125,24 +125,27 @@ fn read_only_mark(row: &ByteRecord) -> Result<Event, RowFault>
     })
 }
 
-/// Reads the values of a record in place of those that are there, up to the first fault.
+/// Reads the values of a record in place of those that are there, up to the first fault. Answers
+/// whether each lies in the interval of its field.
 #[inline(always)]
 pub(crate) fn read_values(
     fields: &[DeclaredField],
     row: &ByteRecord,
     values: &mut Vec<Value>,
-) -> Result<(), RowRefusal>
+) -> Result<bool, RowRefusal>
     requires { length (fields_of row.now) ≡ RECORD_HEAD + length fields.now }
     ensures values { OnOk result (values_of (map field_seen fields.now) (drop RECORD_HEAD (fields_of row.now)) ≡ Ok values.new.items) }
+    ensures fits { IfOk result (λ fits. fits ≡ fit_fields (map field_seen fields.now) values.new.items) }
     ensures fault { IfErr result (λ r. IfFault r (λ f. values_of (map field_seen fields.now) (drop RECORD_HEAD (fields_of row.now)) ≡ Err f)) }
     ensures room { length fields.now ≤ vec_capacity values.old → result ≢ Err RowRefusal.Memory }
     ensures kept { vec_capacity values.old ≤ vec_capacity values.new }
 {
     fit(values, fields.len())?;
+    let mut fits = true;
     for (place, field) in fields.iter().enumerate() {
-        read_value(&field.ty, cell_at(row, RECORD_HEAD + place), values, place)?;
+        fits &= read_value(&field.ty, cell_at(row, RECORD_HEAD + place), values, place)?;
     }
-    Ok(())
+    Ok(fits)
 }
 
 // Has there be so many values, whatever they are.
@@ -167,29 +170,37 @@ fn resize(values: &mut Vec<Value>, count: usize) -> Result<(), AllocError>
     values.resize(count, Value::Int(0))
 }
 
-// Reads the value of a field in place of the one that is there. Most are numbers, so these are read
-// here, and others by a call. A value is put there in each case by itself, so that it isn't moved.
+// Reads the value of a field in place of the one that is there, and answers whether it lies in the
+// interval of its type; a truth and a name always do. Most are numbers, so these are read here, and
+// others by a call. A value is put there in each case by itself, so that it isn't moved.
 #[inline(always)]
 fn read_value(
     ty: &FieldType,
     cell: &[u8],
     values: &mut Vec<Value>,
     place: usize,
-) -> Result<(), RowFault>
+) -> Result<bool, RowFault>
     requires { place < length values.old.items }
     ensures value { OnOk result (Puts (value_of (type_seen ty.now) cell.now) place values.old.items values.new.items) }
+    ensures fits { IfOk result (λ fits. Fits (type_seen ty.now) cell.now fits) }
     ensures fault { IfErr result (λ f. value_of (type_seen ty.now) cell.now ≡ Err f) }
     ensures count { length values.new.items ≡ length values.old.items }
     ensures room { vec_capacity values.new ≡ vec_capacity values.old }
 {
     match ty {
-        FieldType::Int { .. } => {
+        FieldType::Int { lo, hi } => {
             let number = read_number(cell).ok_or(RowFault::BadNumber)?;
             values[place] = Value::Int(number);
-            Ok(())
+            Ok(*lo <= number && number <= *hi)
         }
-        FieldType::Bool => read_truth_value(cell, values, place),
-        FieldType::Enum(names) => read_name_value(names, cell, values, place),
+        FieldType::Bool => {
+            read_truth_value(cell, values, place)?;
+            Ok(true)
+        }
+        FieldType::Enum(names) => {
+            read_name_value(names, cell, values, place)?;
+            Ok(true)
+        }
     }
 }
 

@@ -15,21 +15,22 @@ pub returns-in_err-read_watermark-in-Some-Watermark-clause-fault :
     goal.returns-in_err-read_watermark-in-Some-Watermark-clause-fault
 returns-in_err-read_watermark-in-Some-Watermark-clause-fault c =
     let is = decides c.args.schema.now (fields_of c.args.row.now) _ Watermark c.in-Some-Watermark.ensures c.in-Some-Watermark.field-0-is in
-    let p = err_from_is_err_and c.from_residual.result c.from_residual.ensures.1 in
+    let p = err_from_is_err_and c.from_residual-in_err-read_watermark-in-Some-Watermark.result c.from_residual-in_err-read_watermark-in-Some-Watermark.ensures.1 in
     rw (p.1, p.2) (is ∙ (c.in_err-read_watermark-in-Some-Watermark).ensures.fault)
 
-pub returns-in-Some-Record-clause-event : goal.returns-in-Some-Record-clause-event
-returns-in-Some-Record-clause-event c =
+pub returns-in_ok-self-in-Some-Record-clause-event : goal.returns-in_ok-self-in-Some-Record-clause-event
+returns-in_ok-self-in-Some-Record-clause-event c =
     let is = decides c.args.schema.now (fields_of c.args.row.now) _ Record c.in-Some-Record.ensures c.in-Some-Record.field-0-is in
-    rw is.0 c.read_record.ensures.event
+    is.0 ∙ (c.in_ok-self-in-Some-Record).ensures.event
 
-pub returns-in-Some-Record-clause-fault : goal.returns-in-Some-Record-clause-fault
-returns-in-Some-Record-clause-fault c =
+pub returns-in_err-self-in-Some-Record-clause-fault : goal.returns-in_err-self-in-Some-Record-clause-fault
+returns-in_err-self-in-Some-Record-clause-fault c =
     let is = decides c.args.schema.now (fields_of c.args.row.now) _ Record c.in-Some-Record.ensures c.in-Some-Record.field-0-is in
-    rw is.0 c.read_record.ensures.fault
+    let p = err_from_is_err_and c.from_residual.result c.from_residual.ensures.1 in
+    rw (p.1, p.2, is.0) (c.in_err-self-in-Some-Record).ensures.fault
 
-pub returns-in-Some-Record-clause-memory : goal.returns-in-Some-Record-clause-memory
-returns-in-Some-Record-clause-memory c refused =
+pub returns-in_err-self-in-Some-Record-clause-memory : goal.returns-in_err-self-in-Some-Record-clause-memory
+returns-in_err-self-in-Some-Record-clause-memory c refused =
     (decides c.args.schema.now (fields_of c.args.row.now) _ Record c.in-Some-Record.ensures c.in-Some-Record.field-0-is).1
 
 pub returns-in_ok-read_watermark-in-Some-Watermark-clause-event :
