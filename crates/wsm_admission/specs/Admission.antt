@@ -79,3 +79,12 @@ pub record Fits (shape : Shape) (declared : Declared) (s : State) (past : List E
   pub admitted : s.admitted ≡ admitted_count s.clock shape declared past
   pub late : s.late ≡ counter (late_count s.clock shape declared past)
   pub refused : s.refused ≡ counter (refused_count s.clock shape declared past)
+
+-- an event is decided on: the first rule that refuses it, or what it does to the clock. It is the
+-- definition's decision, and what is kept then fits the history with the event in front
+pub record Decides (shape : Shape) (declared : Declared) (old new : State) (e : Event) (result : Result Admitted Refusal) : Type 0 where
+  pub decision : result ≡ decision shape declared old e
+  pub state : new ≡ after result e old
+  pub range : IsInRange new
+  pub verdict : (past : List Event) → Fits shape declared old past → result ≡ answer_after old.clock shape declared past e
+  pub fits : (past : List Event) → Fits shape declared old past → Fits shape declared new (e ∷ past)

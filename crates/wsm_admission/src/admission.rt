@@ -2,21 +2,23 @@
 
 ghost use Rattle.std.specs.Prelude.{◌≡◌, ◌≤ℤ◌, IsTrue, List, [], ◌∷◌, false, Ok, Err, None, nat_le, pos, unsigned_abs, length, slice_set, ◌<◌};
 ghost use Rattle.wsm_record.specs.Event.{Event as AnyEvent, event_of};
-ghost use Rattle.wsm_admission.specs.Clock.{IsTimely, IsWithinLimits, record_refusal, watermark_refusal, verdict_at, least};
+ghost use Rattle.wsm_record.specs.Schema.{fit_fields};
+ghost use Rattle.wsm_record.specs.declared.event.Value.{Value};
+ghost use Rattle.wsm_admission.specs.Clock.{IsTimely, IsWithinLimits, fits_declared, record_refusal, watermark_refusal, verdict_at, least};
 ghost use Rattle.wsm_record.specs.declared.limits.TheConstants.{LATEST_TIME};
 ghost use Rattle.wsm_windows.specs.Limits.{is_time as lies_in_time};
 ghost use Rattle.wsm_windows.specs.declared.window.Shape.{Shape as AnyShape};
 ghost use Rattle.wsm_windows.specs.Windows.{IsTime};
 ghost use Rattle.wsm_admission.specs.Clock.{is_key as is_declared_key};
 ghost use Rattle.wsm_admission.specs.Clock.{is_too_far_ahead, is_late};
-ghost use Rattle.wsm_admission.specs.Admission.{Fits, IsInRange, opened, after};
-ghost use Rattle.wsm_admission.specs.Admission.{answer, answer_after, decision, marks_with, MayTake};
+ghost use Rattle.wsm_admission.specs.Admission.{Decides, Fits, IsInRange, opened, after};
+ghost use Rattle.wsm_admission.specs.Admission.{answer, marks_with, MayTake};
 
 use crate::clock::Clock;
 use crate::marks::Marks;
 use crate::verdict::{Admitted, Refusal};
 use std::marker::Model;
-use wsm_record::{Event, Schema, Value};
+use wsm_record::{Event, Schema};
 use wsm_windows::{Shape, is_time, live_windows_of};
 
 /// The watermarks and the counts of the events so far.
@@ -108,21 +110,31 @@ impl Admission {
     pub fn decide(
         &mut self,
         schema: &Schema,
-        shape: Shape,
+        shape: &Shape,
         event: &Event,
     ) -> Result<Admitted, Refusal>
-        requires { IsTimely self.old.clock.from_window shape }
-        ensures decision { result ≡ decision shape schema.now self.old (event_of event.now) }
-        ensures state { self.new ≡ after result (event_of event.now) self.old }
-        ensures range { IsInRange self.new }
-        ensures verdict { (past : List AnyEvent) → Fits shape schema.now self.old past →
-            result ≡ answer_after self.old.clock shape schema.now past (event_of event.now) }
-        ensures fits { (past : List AnyEvent) → Fits shape schema.now self.old past →
-            Fits shape schema.now self.new (event_of event.now ∷ past) }
+        requires { IsTimely self.old.clock.from_window shape.now }
+        ensures { Decides shape.now schema.now self.old self.new (event_of event.now) result }
+    {
+        self.decide_judged(schema, shape, event, has_fitting_values(schema, event))
+    }
+
+    /// Decides on the next event, as [`decide`](Admission::decide) does, where whoever has read it
+    /// knows whether its values fit the schema: then no value is looked at.
+    pub fn decide_judged(
+        &mut self,
+        schema: &Schema,
+        shape: &Shape,
+        event: &Event,
+        values_fit: bool,
+    ) -> Result<Admitted, Refusal>
+        requires timely { IsTimely self.old.clock.from_window shape.now }
+        requires judged { values_fit ≡ fits_declared schema.now (event_of event.now) }
+        ensures { Decides shape.now schema.now self.old self.new (event_of event.now) result }
     {
         // The rules lean on the clock's limits, which a look at it makes known. Nothing is done.
         let _ = &self.clock;
-        match self.refusal(schema, shape, event) {
+        match self.refusal(schema, shape, event, values_fit) {
             None => Ok(self.take(event)),
             Some(refusal) => {
                 self.count(refusal);
@@ -176,13 +188,20 @@ impl Admission {
     }
 
     // The first rule that refuses the event, or none.
-    fn refusal(&self, schema: &Schema, shape: Shape, event: &Event) -> Option<Refusal>
-        requires { IsTimely self.now.clock.from_window shape }
-        ensures { result ≡ verdict_at self.now.clock shape schema.now self.now.marks self.now.admitted (event_of event.now) }
+    fn refusal(
+        &self,
+        schema: &Schema,
+        shape: &Shape,
+        event: &Event,
+        values_fit: bool,
+    ) -> Option<Refusal>
+        requires timely { IsTimely self.now.clock.from_window shape.now }
+        requires judged { values_fit ≡ fits_declared schema.now (event_of event.now) }
+        ensures { result ≡ verdict_at self.now.clock shape.now schema.now self.now.marks self.now.admitted (event_of event.now) }
     {
         match event {
-            Event::Record { key, time, values } => {
-                self.try_record(schema, shape, *key, *time, values)
+            Event::Record { key, time, .. } => {
+                self.try_record(schema, shape, *key, *time, values_fit)
             }
             Event::Watermark { source, time } => try_watermark(self.marks.of(*source), *time),
         }
@@ -191,17 +210,18 @@ impl Admission {
     fn try_record(
         &self,
         schema: &Schema,
-        shape: Shape,
+        shape: &Shape,
         key: Option<u16>,
         time: i64,
-        values: &[Value],
+        values_fit: bool,
     ) -> Option<Refusal>
-        requires { IsTimely self.now.clock.from_window shape }
-        ensures { result ≡ record_refusal self.now.clock shape schema.now self.now.mark self.now.admitted key time values.now }
+        requires { IsTimely self.now.clock.from_window shape.now }
+        ensures { (values : List Value) → values_fit ≡ fit_fields schema.now.fields values →
+            result ≡ record_refusal self.now.clock shape.now schema.now self.now.mark self.now.admitted key time values }
     {
         if !is_key(schema, key) {
             Some(Refusal::UnknownKey)
-        } else if !schema.fits(values) {
+        } else if !values_fit {
             Some(Refusal::FieldRange)
         } else if !is_time(time) {
             Some(Refusal::TimeRange)
@@ -224,16 +244,16 @@ impl Admission {
     }
 
     // Whether a record is late.
-    fn is_late(&self, shape: Shape, time: i64) -> bool
+    fn is_late(&self, shape: &Shape, time: i64) -> bool
         requires time { IsTrue (lies_in_time time) }
-        requires timely { IsTimely self.now.clock.from_window shape }
-        ensures { result ≡ is_late self.now.clock shape self.now.mark time }
+        requires timely { IsTimely self.now.clock.from_window shape.now }
+        ensures { result ≡ is_late self.now.clock shape.now self.now.mark time }
     {
         let lateness = self.clock.lateness;
         if !self.clock.from_window {
             return time + lateness < self.mark;
         }
-        live_windows_of(shape, time, lateness, self.mark)
+        live_windows_of(*shape, time, lateness, self.mark)
             .next()
             .is_none()
     }
@@ -269,5 +289,16 @@ fn is_key(schema: &Schema, key: Option<u16>) -> bool
     match key {
         Some(key) => usize::from(key) < schema.key_count(),
         None => false,
+    }
+}
+
+/// Whether the values of an event are one of each declared field, as the schema judges them. A
+/// watermark has none, and none to judge.
+pub fn has_fitting_values(schema: &Schema, event: &Event) -> bool
+    ensures { result ≡ fits_declared schema.now (event_of event.now) }
+{
+    match event {
+        Event::Record { values, .. } => schema.fits(values),
+        Event::Watermark { .. } => true,
     }
 }

@@ -25,18 +25,18 @@
 //!     };
 //!     let mut admission = Admission::new(clock, &schema);
 //!     let shape = Shape::Fixed(60);
-//!     let verdict = admission.decide(&schema, shape, &Event::Watermark { source: Some(0), time: 60 });
+//!     let verdict = admission.decide(&schema, &shape, &Event::Watermark { source: Some(0), time: 60 });
 //!     assert_eq!(rt; verdict, Ok(Admitted::Watermark { old: 0, new: 60 }));
 //!
 //!     let record = Event::Record { key: Some(0), time: 49, values: Vec::new(rt.alloc()) };
-//!     let verdict = admission.decide(&schema, shape, &record);
+//!     let verdict = admission.decide(&schema, &shape, &record);
 //!     assert_eq!(rt; verdict, Err(Refusal::Late)); // 49 + 10 is before 60
 //!     assert_eq!(rt; admission.late(), 1);
 //! }
 //! ```
 #![tactic(auto)]
 
-pub use admission::Admission;
+pub use admission::{Admission, has_fitting_values};
 pub use clock::Clock;
 pub use verdict::{Admitted, Refusal};
 

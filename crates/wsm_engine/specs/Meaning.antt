@@ -1,5 +1,5 @@
 -- What an engine means: how it fits a history, and what it answers to the next event.
-use Rattle.std.specs.Prelude.{◌≡◌, List, [], map, length, sum}
+use Rattle.std.specs.Prelude.{◌≡◌, ◌≤◌, List, [], ◌∷◌, map, length, sum, IsSome}
 use Rattle.wsm_record.specs.declared.words.Form.{Form}
 use Rattle.wsm_record.specs.declared.words.Form.TheVariants as form
 use Rattle.wsm_record.specs.Event.{Event}
@@ -8,7 +8,7 @@ use Rattle.wsm_admission.specs.Admission as admission
 use Rattle.wsm_admission.specs.Admission.{counter}
 use Rattle.wsm_semantics.specs.Query.{Query, verdict_on}
 use Rattle.wsm_semantics.specs.Firings.{firings, firings_so_far}
-use Rattle.wsm_semantics.specs.Relation.{relation}
+use Rattle.wsm_semantics.specs.Relation.{relation, turn_rows}
 use Rattle.wsm_semantics.specs.Kept.{kept}
 use Rattle.wsm_semantics.specs.Summaries.{summaries}
 use Rattle.wsm_program.specs.Program.{Program}
@@ -62,3 +62,15 @@ pub record IsRefused (old new : State) : Type 0 where
   pub mark : new.machine.admission.mark ≡ old.machine.admission.mark
   pub admitted : new.machine.admission.admitted ≡ old.machine.admission.admitted
   pub fired : new.machine.fired ≡ old.machine.fired
+
+-- an engine takes an event: what it keeps then fits the history with the event in front, and its reply
+-- and its rows are the definition's for that history
+pub record Feeds (old new : State) (e : Event) (result : Reply) : Type 0 where
+  pub program : new.program ≡ old.program
+  pub fits : (past : List Event) → Fits old past → Fits new (e ∷ past)
+  pub reply : (past : List Event) → Fits old past → result ≡ reply_to old.program past e
+  pub rows : (past : List Event) → Fits old past → new.rows ≡ turn_rows (query_of old.program) past e
+  pub room : new.room ≡ old.room
+  pub refused : IsSome result.refusal → IsRefused old new
+  pub record_within : result.record_steps ≤ old.program.header.budget.per_record
+  pub pane_within : result.pane_steps_max ≤ old.program.header.budget.per_pane
