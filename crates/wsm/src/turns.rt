@@ -31,12 +31,13 @@ impl Turns {
     ghost use Rattle.std.specs.Io.KnownBytes.{Appends};
     ghost use Rattle.csv.specs.Records.{fields_of};
     ghost use Rattle.wsm_admission.specs.Admission.{counter};
+    ghost use Rattle.wsm_admission.specs.Clock.{fits_declared};
     ghost use Rattle.wsm_semantics.specs.Lines.{Row, end_line};
     ghost use Rattle.wsm_semantics.specs.Text.{line_text};
     ghost use Rattle.wsm_program.specs.Program.{Program};
     ghost use Rattle.wsm_machine.specs.Meaning.{query_of};
     ghost use Rattle.wsm_csv.specs.Cells.{event_of_cells};
-    ghost use Rattle.wsm_csv.specs.EventReader.{event_read};
+    ghost use Rattle.wsm_csv.specs.EventReader.{event_read, fits_read};
     ghost use Rattle.wsm_csv.specs.Device.{TakesPart};
     ghost use Rattle.wsm.specs.Written.{line_of};
     ghost use Rattle.wsm.specs.Turns.{Adds, Ends, Fits, Turned};
@@ -68,11 +69,13 @@ impl Turns {
         }
     }
 
-    // The turn of the event that was read.
+    // The turn of the event that was read by the engine's schema.
     fn feed(&mut self) -> Result<(), AllocError>
+        requires { fits_read self.old.events ≡ fits_declared self.old.engine.program.header.schema (event_read self.old.events) }
         ensures { (p : Program) (before : List Row) → Fits p self.old before → OnOk result (Adds p self.old self.new before (Ok (event_read self.old.events))) }
     {
-        let reply = self.engine.feed(self.events.event());
+        let values_fit = self.events.values_fit();
+        let reply = self.engine.feed_judged(self.events.event(), values_fit);
         self.tell(reply.refusal)?;
         rows_text(self.engine.schema(), self.engine.rows(), &mut self.lines)?;
         Ok(())

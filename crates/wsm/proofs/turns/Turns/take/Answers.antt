@@ -2,12 +2,16 @@ use Rattle.std.proofs.Common.{◌≡◌, ◌∙◌, Ok, Err, sym, ap, subst}
 use Rattle.std.proofs.lemmas.Result.{on_ok_weaker}
 use Rattle.csv.specs.Records.{fields_of}
 use Rattle.wsm_record.specs.Schema.{Declared}
+use Rattle.wsm_admission.specs.Clock.{fits_declared}
 use Rattle.wsm_program.specs.Program.{Program}
 use Rattle.wsm_csv.specs.Cells.{event_of_cells}
 use Rattle.wsm_csv.specs.EventReader.{event_read}
 use Rattle.wsm.specs.Turns.{Fits, Turned}
 use Rattle.wsm.proofs.RowTurns.{turned}
 use Rattle.wsm.proofs.turns.Turns.take.Goals as goal
+
+pub feed-requires : goal.feed-requires
+feed-requires c = c.in-Ok.ensures.fits ∙ ap (λ (d : Declared). fits_declared d (event_read c.read.new.self)) c.schema.ensures
 
 pub returns-in-Ok : goal.returns-in-Ok
 returns-in-Ok c = λ p before fits.
