@@ -1,6 +1,6 @@
 -- The rows of windows: which is the first that has a time inside, and which is the next.
-use Rattle.std.proofs.Common.{◌≡◌, ◌≢◌, ◌⊎◌, ℕ, zero, suc, ◌+◌, ◌-◌, ◌*◌, ◌^◌, ◌<◌, ◌≤◌, List, ◌∷◌, filter, length, ℤ, pos, negsuc, ◌+ℤ◌, ◌-ℤ◌, ◌*ℤ◌, ◌<ℤ◌, ◌≤ℤ◌, refl, sym, ap, ◌∙◌, inl, inr, arith}
-use Rattle.std.specs.Prelude.{int_lt, unsigned_abs}
+use Rattle.std.proofs.Common.{◌≡◌, ◌≢◌, ◌⊎◌, Bool, false, cond, [], ℕ, zero, suc, ◌+◌, ◌-◌, ◌*◌, ◌/◌, ◌^◌, ◌<◌, ◌≤◌, List, ◌∷◌, filter, length, ℤ, pos, negsuc, ◌+ℤ◌, ◌-ℤ◌, ◌*ℤ◌, ◌<ℤ◌, ◌≤ℤ◌, refl, sym, ap, ◌∙◌, inl, inr, arith}
+use Rattle.std.specs.Prelude.{int_le, int_lt, unsigned_abs}
 use Rattle.std.specs.Int.{int_rem_euclid, int_div_euclid}
 use Rattle.std.proofs.lemmas.Int.{ints, by_lt_z}
 use Rattle.std.proofs.lemmas.Nat.{mul-le}
@@ -17,7 +17,7 @@ use Rattle.wsm_windows.proofs.Members.{rising}
 use Rattle.wsm_windows.proofs.Multiples.{rem_below}
 use Rattle.wsm_panes.specs.declared.ring.Ring.{Ring}
 use Rattle.wsm_panes.specs.declared.ring.Row.{Row}
-use Rattle.wsm_panes.specs.Ring.{IsNextOnGrid, IsOnGrid, IsRing, IsRow, row_of, window_number}
+use Rattle.wsm_panes.specs.Ring.{IsAlone, IsNextOnGrid, IsOnGrid, IsRing, IsRow, row_of, window_number}
 use Rattle.wsm_panes.proofs.InTurn.{few_windows}
 use Rattle.wsm_panes.proofs.Live.{rising_numbers}
 use Rattle.wsm_panes.proofs.Rings.{behind_on_grid, grid_start, next_on_grid, on_grid_next, quot_rem}
@@ -207,3 +207,19 @@ few_on r time past is few =
     let most = few_windows (Sliding r.size r.period) (record { period_low = is.period_low; period_high = is.period_high; size_high = few }) time in
     let less = length-filter (λ (w : Window). int_lt past w.end) (windows_of r.size r.period time) in
     omega (arith, most, less)
+
+-- none is left from a start behind the time on
+pub none_on : (r : Ring) (time start : ℤ) → int_le start time ≡ false → windows_on r time start ≡ []
+none_on r time start h = ap (λ (b : Bool). windows_from (cond b (suc (unsigned_abs (time -ℤ start) / unsigned_abs r.period)) 0) r.size r.period start) h
+
+-- a window that is the only one of its time, and ends past another
+pub alone_on : (r : Ring) (start time past : ℤ) → IsRing r → IsOnGrid r start → time ≤ℤ past → IsAlone r start time past → ending_past r time past ≡ window start (start +ℤ r.size) ∷ []
+alone_on r start time past is grid after alone =
+    let next = start +ℤ r.period in
+    let first : start ≡ first_start r.size r.period past =
+    near_first r.size r.period past grid.0 start is.period_low grid.1 (omega (arith, ints, alone.lasting)) (omega (arith, ints, alone.fixed, alone.inside, after)) in
+    let behind : time <ℤ next = omega (arith, ints, alone.fixed, alone.lasting, after) in
+    let none : int_le next time ≡ false = grind (arith, ints) in
+    sym (all_on r time past start is after first)
+    ∙ one_on r time start next is alone.inside refl
+    ∙ ap (λ (ws : List Window). window start (start +ℤ r.size) ∷ ws) (none_on r time next none)

@@ -40,6 +40,12 @@ pub record IsRow (r : Ring) (row : Row) : Type 0 where
   pub grid : IsOnGrid r row.start
   pub slot : row.slot ≡ row_of r row.start
 
+-- windows are fixed, and the one from a start on has a time inside and ends past another
+pub record IsAlone (r : Ring) (start time past : ℤ) : Type 0 where
+  pub fixed : r.size ≡ r.period
+  pub inside : start ≤ℤ time
+  pub lasting : past <ℤ (start +ℤ r.size)
+
 -- its window is one of the shape, and its key one of the keys
 pub record IsOfRing (r : Ring) (p : Place) : Type 0 where
   pub key : p.key < r.keys

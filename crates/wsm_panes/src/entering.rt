@@ -10,8 +10,40 @@ use crate::ring_table::RingTable;
 use wsm_record::{Kind, Value};
 
 /// Puts a record into the panes of the windows that have its time inside and end past another, and
-/// tells how many they are.
+/// tells how many they are. Where windows are fixed it is mostly the one that the last record was put into, and no row
+/// is looked for.
+#[inline(always)]
 pub(crate) fn enter_windows(
+    table: &mut RingTable,
+    kinds: &[Kind],
+    key: u16,
+    time: i64,
+    values: &[Value],
+    past: i64,
+) -> u64
+    requires size { table.old.ring.size ≤ℤ greatest_span }
+    requires time { IsTime time }
+    requires past { IsTime past }
+    requires after { time ≤ℤ past }
+    requires wide { length values.now ≡ table.old.widths.accumulators }
+    requires types { IsTrue (are_of_kinds kinds.now values.now) }
+    requires can { CanEnterWindows table.old.ring kinds.now values.now key time (windows_past table.old.ring past time) (map.entries table.old.panes) }
+    ensures panes { map.entries table.new.panes ≡ with_assigned kinds.now values.now table.old.ring past key time (map.entries table.old.panes) }
+    ensures ring { table.new.ring ≡ table.old.ring }
+    ensures widths { table.new.widths ≡ table.old.widths }
+    ensures count { result ≡ length (windows_past table.old.ring past time) }
+{
+    let ring = table.ring();
+    let row = table.known_row();
+    if ring.is_alone(row, time, past) {
+        table.enter_at(row.slot + key as usize, ring.place(row, key), kinds, values);
+        return 1;
+    }
+    enter_each(table, kinds, key, time, values, past)
+}
+
+// The same, window by window.
+fn enter_each(
     table: &mut RingTable,
     kinds: &[Kind],
     key: u16,

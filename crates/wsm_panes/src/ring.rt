@@ -1,13 +1,13 @@
 //! Where a ring has its slots.
 
-ghost use Rattle.std.specs.Prelude.{◌≡◌, ◌↔◌, ◌+◌, ◌*◌, ◌≤◌, ◌<◌, ◌+ℤ◌, ◌-ℤ◌, ◌<ℤ◌, ◌≤ℤ◌, IsTrue};
+ghost use Rattle.std.specs.Prelude.{◌≡◌, ◌↔◌, ◌+◌, ◌*◌, ◌≤◌, ◌<◌, ◌+ℤ◌, ◌-ℤ◌, ◌<ℤ◌, ◌≤ℤ◌, pos, true, IsTrue};
 ghost use Rattle.std.specs.Int.{w64};
 ghost use Rattle.std.specs.Int.RustNames.{FitsSigned};
 ghost use Rattle.wsm_windows.specs.Windows.{IsTime, greatest_span, window};
 ghost use Rattle.wsm_windows.specs.Windows as windows;
 ghost use Rattle.wsm_windows.specs.Places.{at};
 ghost use Rattle.wsm_panes.specs.Ring as ring;
-ghost use Rattle.wsm_panes.specs.Ring.{IsRing, IsNextOnGrid, IsOfRing, IsRow};
+ghost use Rattle.wsm_panes.specs.Ring.{IsAlone, IsRing, IsNextOnGrid, IsOfRing, IsRow};
 
 use crate::spot::rebuilt_place;
 use wsm_windows::Place;
@@ -54,6 +54,17 @@ impl Ring {
         ensures { IsNextOnGrid self.period time result }
     {
         time + (self.period - time.rem_euclid(self.period))
+    }
+
+    // Whether windows are fixed, and that of a row has a time inside and ends past another, so that no other does.
+    #[inline(always)]
+    pub(crate) fn is_alone(self, row: Row, time: i64, past: i64) -> bool
+        requires size { self.size ≤ℤ greatest_span }
+        requires low { pos 1 ≤ℤ self.size }
+        requires past { IsTime past }
+        ensures { result ≡ true → IsAlone self row.start time past }
+    {
+        self.size == self.period && row.start <= time && past - self.size < row.start
     }
 
     // The row of the first window that has a time inside, where the row of another is known. Records

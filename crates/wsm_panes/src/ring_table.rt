@@ -90,6 +90,14 @@ impl RingTable {
         self.ring
     }
 
+    /// The row of the first window that has the time of the last record inside, or that of the window at 0.
+    #[inline(always)]
+    pub(crate) fn known_row(&self) -> Row
+        ensures { IsRow self.now.ring result }
+    {
+        self.row
+    }
+
     /// The row of the first window that has a time inside.
     pub(crate) fn first_row(&mut self, time: i64) -> Row
         requires size { self.old.ring.size ≤ℤ greatest_span }

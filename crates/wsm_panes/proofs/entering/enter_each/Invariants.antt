@@ -7,7 +7,7 @@ use Rattle.wsm_panes.specs.Held.{CanEnterWindows, taking}
 use Rattle.wsm_panes.specs.Ring.{IsRow}
 use Rattle.wsm_panes.proofs.Rows.{ending_past, windows_on}
 use Rattle.wsm_panes.proofs.Scan.{left_until}
-use Rattle.wsm_panes.proofs.entering.enter_windows.Given as goal
+use Rattle.wsm_panes.proofs.entering.enter_each.Given as goal
 
 -- to put the record into the panes of the windows from the row on comes to putting it into all, and it can be done
 abbrev pub invariant-loop-row : goal.invariant-loop-row
