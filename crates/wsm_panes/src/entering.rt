@@ -1,6 +1,6 @@
 //! What a record does to a table of panes.
 
-ghost use Rattle.std.specs.Prelude.{◌≡◌, ◌≤◌, ◌≤ℤ◌, length, IsTrue};
+ghost use Rattle.std.specs.Prelude.{◌≡◌, ◌≤◌, ◌≤ℤ◌, ◌∷◌, [], length, IfSome, IsTrue};
 ghost use Rattle.std.specs.FinMap as map;
 ghost use Rattle.wsm_windows.specs.Windows.{IsTime, greatest_span};
 ghost use Rattle.wsm_fold.specs.Fold.{are_of_kinds};
@@ -8,10 +8,10 @@ ghost use Rattle.wsm_panes.specs.Held.{CanEnterWindows, windows_past, with_assig
 
 use crate::ring_table::RingTable;
 use wsm_record::{Kind, Value};
+use wsm_windows::Window;
 
-/// Puts a record into the panes of the windows that have its time inside and end past another, and
-/// tells how many they are. Where windows are fixed it is mostly the one that the last record was put into, and no row
-/// is looked for.
+/// Puts a record into the panes of the windows that have its time inside and end past another. Tells how many they
+/// are, and which it is where there is one alone that is at hand.
 #[inline(always)]
 pub(crate) fn enter_windows(
     table: &mut RingTable,
@@ -20,7 +20,7 @@ pub(crate) fn enter_windows(
     time: i64,
     values: &[Value],
     past: i64,
-) -> u64
+) -> (u64, Option<Window>)
     requires size { table.old.ring.size ≤ℤ greatest_span }
     requires time { IsTime time }
     requires past { IsTime past }
@@ -31,18 +31,20 @@ pub(crate) fn enter_windows(
     ensures panes { map.entries table.new.panes ≡ with_assigned kinds.now values.now table.old.ring past key time (map.entries table.old.panes) }
     ensures ring { table.new.ring ≡ table.old.ring }
     ensures widths { table.new.widths ≡ table.old.widths }
-    ensures count { result ≡ length (windows_past table.old.ring past time) }
+    ensures count { result.0 ≡ length (windows_past table.old.ring past time) }
+    ensures alone { IfSome result.1 (λ w. windows_past table.old.ring past time ≡ w ∷ []) }
 {
-    let ring = table.ring();
-    let row = table.known_row();
-    if ring.is_alone(row, time, past) {
-        table.enter_at(row.slot + key as usize, ring.place(row, key), kinds, values);
-        return 1;
+    match table.only_row(time, past) {
+        Some(row) => {
+            let place = table.ring().place(row, key);
+            table.enter_at(row.slot + key as usize, place, kinds, values);
+            (1, Some(place.window()))
+        }
+        None => (enter_each(table, kinds, key, time, values, past), None),
     }
-    enter_each(table, kinds, key, time, values, past)
 }
 
-// The same, window by window.
+// Puts a record into the panes of those windows one after the other, and tells how many they are.
 fn enter_each(
     table: &mut RingTable,
     kinds: &[Kind],

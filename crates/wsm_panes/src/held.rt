@@ -10,6 +10,7 @@ ghost use Rattle.wsm_semantics.specs.Summaries.{linked};
 ghost use Rattle.wsm_record.specs.Modes.{retracts};
 ghost use Rattle.wsm_windows.specs.Places.{place_cmp};
 ghost use Rattle.wsm_panes.specs.Held.{CanEnter, IsKept, IsSpot, are_sessions, entries_of, joined_panes, joins_sessions, session_entered, windows_entered, with_entered, FiresAmong};
+ghost use Rattle.wsm_panes.specs.Entered.{IsToldAlone, unshown_at};
 ghost use Rattle.wsm_panes.specs.HeldState.{AreTables, panes_in, widths_in};
 ghost use Rattle.wsm_panes.specs.Ring.{IsRing};
 ghost use Rattle.wsm_panes.specs.OfKeys.{AreOfKeys, AreDropped, StayOfKeys};
@@ -41,6 +42,8 @@ pub struct Entered {
     pub joined: bool,
     /// The window of its session, where windows are sessions.
     pub session: Option<Window>,
+    /// The one window that it was put into, where that is at hand: a session always is.
+    pub alone: Option<Window>,
 }
 
 /// The panes that are held, for each key and window, with what is kept of their records. In sessions
@@ -125,23 +128,28 @@ impl HeldPanes {
         ensures windows { result.windows ≡ windows_entered self.old.shape time lateness mark }
         ensures joined { result.joined ≡ joins_sessions self.old.shape (datum 0 (pos 0) key time []) (entries_of self.old) }
         ensures session { result.session ≡ session_entered self.old.shape (datum 0 (pos 0) key time []) (entries_of self.old) }
+        ensures alone { IsToldAlone self.old.shape time lateness mark result.session result.alone }
     {
         match &mut self.tables {
             Tables::Sessions(list, sessions) => {
                 let sessions = &mut sessions[key as usize];
                 let (session, joined) = enter_session(list, sessions, kinds, key, time, values);
+                let session = Some(rebuilt_window(session));
                 Entered {
                     windows: 1,
                     joined,
-                    session: Some(rebuilt_window(session)),
+                    session,
+                    alone: session,
                 }
             }
             Tables::Grid(ring) => {
                 let past = live_past(time, lateness, mark);
+                let (windows, alone) = enter_windows(ring, kinds, key, time, values, past);
                 Entered {
-                    windows: enter_windows(ring, kinds, key, time, values, past),
+                    windows,
                     joined: false,
                     session: None,
+                    alone,
                 }
             }
         }
@@ -196,6 +204,20 @@ impl HeldPanes {
         match &self.tables {
             Tables::Sessions(list, _) => Spot::rebuilt_found(list.find(rebuilt_place(place))),
             Tables::Grid(ring) => ring.find(place),
+        }
+    }
+
+    /// How many records of the pane at a place no firing showed yet, if one is there. Where it is the pane that the last
+    /// record of its key went to, nothing is searched.
+    #[inline(always)]
+    pub fn unshown(&self, place: Place) -> Option<u64>
+        ensures { result ≡ unshown_at place (entries_of self.now) }
+    {
+        match &self.tables {
+            Tables::Sessions(list, sessions) => {
+                list.unshown(noted(sessions, place.key), rebuilt_place(place))
+            }
+            Tables::Grid(ring) => ring.unshown(place),
         }
     }
 
@@ -348,6 +370,14 @@ fn no_sessions(
         sessions.push_reserved(Sessions::open(alloc, gap, live)?);
     }
     Ok(sessions)
+}
+
+// What was noted of the sessions of a key, if there are any. It is a guess.
+fn noted(sessions: &[Sessions], key: u16) -> usize {
+    match sessions.get(key as usize) {
+        Some(sessions) => sessions.noted(),
+        None => 0,
+    }
 }
 
 // Drops the panes of sessions that end by a limit, and those sessions, if there are any.

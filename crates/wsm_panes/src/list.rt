@@ -87,6 +87,20 @@ impl ListTable {
         self.slots.pane(self.row.get(at))
     }
 
+    /// How many records of the pane at a place no firing showed yet, if one is there. A slot that is guessed is looked at
+    /// first.
+    pub(crate) fn unshown(&self, guess: usize, place: Place) -> Option<u64>
+        ensures { result ≡ option_map (λ h. h.unshown) (map.get self.now.panes place) }
+    {
+        if is_at(&self.slots, guess, place) {
+            return Some(self.slots.pane(guess).unshown());
+        }
+        match self.find(place) {
+            Some(spot) => Some(self.pane(spot).unshown()),
+            None => None,
+        }
+    }
+
     /// Puts a record into the pane at a place, which goes to another place then. The pane stays in its
     /// slot, which is told. A slot that is guessed is looked at first.
     pub(crate) fn enter_moved(

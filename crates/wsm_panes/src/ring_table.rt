@@ -1,14 +1,15 @@
 //! A table kept as a ring of slots.
 
-ghost use Rattle.std.specs.Prelude.{◌≡◌, ◌⊎◌, ◌<◌, ◌≤◌, ◌≤ℤ◌, List, IfOk, IfSome, IsSome, IsTrue, Some, length, option_map};
+ghost use Rattle.std.specs.Prelude.{◌≡◌, ◌⊎◌, ◌<◌, ◌≤◌, ◌+ℤ◌, ◌≤ℤ◌, ◌∷◌, [], FitsSigned, List, IfOk, IfSome, IsSome, IsTrue, Some, length, option_map};
 ghost use Rattle.std.specs.FinMap as map;
+ghost use Rattle.std.specs.Int.{w64};
 ghost use Rattle.wsm_record.specs.declared.event.Value.{Value as OneValue};
 ghost use Rattle.wsm_record.specs.declared.limits.TheConstants.{MAX_ACCUMULATORS, MAX_COLUMNS};
 ghost use Rattle.wsm_record.specs.Modes.{retracts};
 ghost use Rattle.wsm_fold.specs.Fold.{are_of_kinds};
-ghost use Rattle.wsm_windows.specs.Windows.{IsTime, first_start, greatest_span};
+ghost use Rattle.wsm_windows.specs.Windows.{IsTime, first_start, greatest_span, window};
 ghost use Rattle.wsm_semantics.specs.Summaries.{Pane as AnyPane};
-ghost use Rattle.wsm_panes.specs.Held.{CanRecord, with_one_more, FiresAt};
+ghost use Rattle.wsm_panes.specs.Held.{CanRecord, windows_past, with_one_more, FiresAt};
 ghost use Rattle.wsm_panes.specs.Walk.{HasSlot};
 ghost use Rattle.wsm_panes.specs.Ring.{IsFirstPast, IsLastDue, IsOnGrid, IsRing, IsRow, RingAdmits, slot_of};
 
@@ -90,12 +91,23 @@ impl RingTable {
         self.ring
     }
 
-    /// The row of the first window that has the time of the last record inside, or that of the window at 0.
+    /// The row of the only window that has a time inside and ends past another, where windows are fixed and it is that of
+    /// the last record. Mostly it is, and no row is looked for.
     #[inline(always)]
-    pub(crate) fn known_row(&self) -> Row
-        ensures { IsRow self.now.ring result }
+    pub(crate) fn only_row(&self, time: i64, past: i64) -> Option<Row>
+        requires size { self.now.ring.size ≤ℤ greatest_span }
+        requires time { IsTime time }
+        requires past { IsTime past }
+        requires after { time ≤ℤ past }
+        ensures row { IfSome result (IsRow self.now.ring) }
+        ensures only { IfSome result (λ row. windows_past self.now.ring past time ≡ window row.start (row.start +ℤ self.now.ring.size) ∷ []) }
+        ensures end { IfSome result (λ row. FitsSigned w64 (row.start +ℤ self.now.ring.size)) }
     {
-        self.row
+        if self.ring.is_alone(self.row, time, past) {
+            Some(self.row)
+        } else {
+            None
+        }
     }
 
     /// The row of the first window that has a time inside.
@@ -112,6 +124,7 @@ impl RingTable {
 
     /// Puts a record into the pane at a place, whose slot is told, and makes a pane of it where none
     /// is. The record is folded by the values.
+    #[inline(always)]
     pub(crate) fn enter_at(&mut self, slot: usize, place: Place, kinds: &[Kind], values: &[Value])
         requires slot { slot ≡ slot_of self.old.ring place }
         requires wide { length values.now ≡ self.old.widths.accumulators }
@@ -141,6 +154,17 @@ impl RingTable {
         ensures widths { self.new.widths ≡ self.old.widths }
     {
         self.slots.fire(spot.at, mode, row);
+    }
+
+    /// How many records of the pane at a place no firing showed yet, if one is there.
+    #[inline(always)]
+    pub(crate) fn unshown(&self, place: Place) -> Option<u64>
+        ensures { result ≡ option_map (λ h. h.unshown) (map.get self.now.panes place) }
+    {
+        match self.find(place) {
+            Some(spot) => Some(self.pane(spot).unshown()),
+            None => None,
+        }
     }
 
     /// The pane at a spot.

@@ -23,6 +23,7 @@ use wsm_windows::Place;
 
 /// Puts a record into the pane at a place, which its slot has, and makes a pane of it where the slot
 /// has no such pane. The record is folded by the values. Tells how many more entries there are.
+#[inline(always)]
 pub(crate) fn record_in(
     slots: &mut Slots,
     slot: usize,

@@ -1,7 +1,7 @@
-use Rattle.std.proofs.Common.{rules, ◌≡◌, ◌≢◌, [], ◌∷◌, ◌≤◌, ◌*◌, ℤ, pos, ◌≤ℤ◌, Some, arith, refl, sym, ap, ◌∙◌, filter, length, SFits, w64}
+use Rattle.std.proofs.Common.{rules, ◌≡◌, ◌≢◌, List, Option, None, [], ◌∷◌, ◌≤◌, ◌*◌, ℤ, pos, ◌≤ℤ◌, Some, arith, refl, sym, ap, ◌∙◌, filter, length, SFits, w64}
 use Rattle.std.proofs.lemmas.Int.{ints, to_z-of_z}
 use Rattle.std.proofs.lemmas.Nat.{mul-le}
-use Rattle.std.specs.Prelude.{int_lt}
+use Rattle.std.specs.Prelude.{IfSome, int_lt}
 use Rattle.std.specs.FinMap as map
 use Rattle.wsm_windows.specs.declared.window.Shape.{Shape}
 use Rattle.wsm_windows.specs.declared.window.Shape.TheVariants.{Session}
@@ -10,6 +10,8 @@ use Rattle.wsm_windows.specs.Life.{is_live, live_windows_of}
 use Rattle.wsm_semantics.specs.Replay.{datum}
 use Rattle.wsm_semantics.specs.Summaries.{assigned}
 use Rattle.wsm_panes.specs.declared.ring.Ring.{Ring}
+use Rattle.wsm_windows.specs.declared.window.Window.{Window}
+use Rattle.wsm_panes.specs.Entered.{IsToldAlone}
 use Rattle.wsm_panes.specs.Held.{taking}
 use Rattle.wsm_panes.proofs.Enters.{entered_assigned, few_values, joins_can, room_can, live_can, no_session, none_joined, windows_are, windows_can, windows_grid, wide_values, key_of, keys_written}
 use Rattle.wsm_panes.proofs.Rows.{ending_past}
@@ -55,8 +57,8 @@ live_in_ring shape r time lateness mark past grid ok size period live =
     ∙ sym (live (size_of shape) (period_of shape) (omega (arith, ints, ok.period_low, ok.period_high)) ok.size_high)
     ∙ (λ i. filter (λ w. int_lt past w.end) (windows_of (sym size i) (sym period i) time))
 
-pub enter_windows-requires : goal.enter_windows-requires
-enter_windows-requires c =
+pub enter_windows-windows-requires : goal.enter_windows-windows-requires
+enter_windows-windows-requires c =
     let a = c.self.inside in
     let ring = c.in-Grid.ring in
     let h = rw c.in-Grid.is at c.self.invariant.tables in
@@ -116,7 +118,7 @@ invariant_of-self c =
             shape = c.self.invariant.shape;
             tables = record {
               grid = h.grid;
-              ring_is = λ roomy. w.enter_windows.ensures.ring ∙ h.ring_is roomy;
+              ring_is = λ roomy. w.enter_windows-windows.ensures.ring ∙ h.ring_is roomy;
               none = λ zero. absurd (omega (arith, some, zero));
             };
           })
@@ -149,7 +151,7 @@ returns-clause-panes c =
           let plan = taking c.args.kinds.now c.args.values.now in
           let d = datum 0 c.args.mark c.args.key c.args.time [] in
           rw (w.self-inside-is, ← c.self.view_is, w.in-Grid.is)
-          (rw (z, p) at w.enter_windows.ensures.panes
+          (rw (z, p) at w.enter_windows-windows.ensures.panes
           ∙ ap (λ ws. assigned plan d ws (map.entries ring.panes)) (sym windows)
           ∙ sym (entered_assigned plan a.shape c.args.lateness h.grid d (map.entries ring.panes)))
     ]
@@ -175,7 +177,7 @@ returns-clause-windows c =
           let same = h.ring_is (omega (arith, some)) in
           let live = rw (z, l, m) at w.live_past-past.ensures.live in
           let windows = live_in_ring a.shape ring.ring c.args.time c.args.lateness c.args.mark w.live_past-past.result h.grid c.self.invariant.shape (ap (λ (r : Ring). r.size) same) (ap (λ (r : Ring). r.period) same) live in
-          rw (w.result-is, ← c.self.view_is) (rw (z, p) at w.enter_windows.ensures.count ∙ ap length (sym windows) ∙ sym (windows_are a.shape c.args.time c.args.lateness c.args.mark h.grid))
+          rw (w.result-is, ← c.self.view_is) (rw (z, p) at w.enter_windows-windows.ensures.count ∙ ap length (sym windows) ∙ sym (windows_are a.shape c.args.time c.args.lateness c.args.mark h.grid))
     ]
 
 pub returns-clause-joined : goal.returns-clause-joined
@@ -204,4 +206,32 @@ returns-clause-session c =
       | in-Grid w ↦
           let h = rw w.in-Grid.is at c.self.invariant.tables in
           rw (w.result-is, ← c.self.view_is, w.in-Grid.is) (no_session c.self.inside.shape h.grid _ _)
+    ]
+
+-- what is told alone is the only window of a record without a session
+told_alone : (shape : Shape) (time lateness mark : ℤ) (ws : List Window) (alone : Option Window) → live_windows_of shape time lateness mark ≡ ws → IfSome alone (λ w. ws ≡ w ∷ []) → IsToldAlone shape time lateness mark None alone
+told_alone shape time lateness mark ws None live only = record { windows = refl; sessions = λ none. refl }
+told_alone shape time lateness mark ws (Some w) live only = record { windows = sym (live ∙ only); sessions = λ some. refl }
+
+pub returns-clause-alone : goal.returns-clause-alone
+returns-clause-alone c =
+    let a = c.self.inside in
+    let time : SFits w64 c.args.time = c.ranges.time in
+    elim c.match-self.branch [
+      | in-Sessions w ↦ rw w.result-is (record { windows = refl; sessions = λ none. none })
+      | in-Grid w ↦
+          let ring = w.in-Grid.ring in
+          let h = rw w.in-Grid.is at c.self.invariant.tables in
+          let past_fits : SFits w64 w.live_past-past.result = search rules in
+          let z = to_z-of_z w64 c.args.time time in
+          let l = to_z-of_z w64 c.args.lateness c.ranges.lateness in
+          let m = to_z-of_z w64 c.args.mark c.ranges.mark in
+          let p = to_z-of_z w64 w.live_past-past.result past_fits in
+          let whole = ((rw (← c.self.view_is) at c.requires).apart h.grid).ring in
+          let some : 1 * 1 ≤ a.keys * a.live = mul-le 1 1 a.keys a.live whole.keys whole.bound in
+          let same = h.ring_is (omega (arith, some)) in
+          let live = rw (z, l, m) at w.live_past-past.ensures.live in
+          let windows = live_in_ring a.shape ring.ring c.args.time c.args.lateness c.args.mark w.live_past-past.result h.grid c.self.invariant.shape (ap (λ (r : Ring). r.size) same) (ap (λ (r : Ring). r.period) same) live in
+          rw (w.result-is, ← c.self.view_is)
+          (told_alone a.shape c.args.time c.args.lateness c.args.mark (ending_past ring.ring c.args.time w.live_past-past.result) w.enter_windows-windows.result.1 windows (rw (z, p) at w.enter_windows-windows.ensures.alone))
     ]
