@@ -2,6 +2,7 @@
 use Rattle.std.proofs.Common.{◌≡◌, Bool, true, false, ◌&&◌, ◌||◌, cond, T, List, [], ◌∷◌, Option, Some, None, refl, sym, ap, subst, ◌∙◌}
 use Rattle.std.specs.Prelude.{ℤ, option_map}
 use Rattle.std.specs.List.{AllByRecursion, cons_option}
+use Rattle.std.specs.Option.{is_some}
 use Rattle.std.specs.Ordering.{eq_by_cmp, is_lt, is_eq, ordering_reverse}
 use Rattle.std.specs.Cmp.{tied_itself}
 use Rattle.std.specs.declared.cmp.Ordering.{Ordering}
@@ -16,7 +17,7 @@ use Rattle.wsm_semantics.specs.Firings.{kind_on_record}
 use Rattle.wsm_semantics.specs.Summaries.{Plan, Pane, Fired, fired_count, fired_of, fires, fired_pane, all_fired}
 use Rattle.wsm_semantics.proofs.Tables.{find-keyed, is_sorted-keyed}
 use Rattle.wsm_panes.proofs.Sorted.{lesser}
-use Rattle.wsm_firing.specs.ByRecord.{kind_at}
+use Rattle.wsm_firing.specs.ByRecord.{is_called, kind_at}
 use Rattle.wsm_firing.proofs.SameKinds.{Kind, Entries, none_fires}
 
 pub first_of : (a b : Bool) → T (a && b) → T a
@@ -26,6 +27,10 @@ first_of false b t = absurd t
 pub second_of : (a b : Bool) → T (a && b) → T b
 second_of true b t = t
 second_of false b t = absurd t
+
+no_kind_of : (kind : Option PaneKind) → is_some kind ≡ false → kind ≡ None
+no_kind_of None is = refl
+no_kind_of (Some kind) is = absurd (cc)
 
 module _ {X : Type 0} (plan : Plan X) (q : Query) (mark : ℤ) (p : Place) where
   abbrev pub one : Kind plan q
@@ -151,3 +156,8 @@ module _ {X : Type 0} (plan : Plan X) (q : Query) (mark : ℤ) (p : Place) where
           firings = (found (Some h) there).firings ∙ ap (λ (k : Option PaneKind). cons_option (fired_of q.mode p h k) []) is;
           panes = (found (Some h) there).panes ∙ ap (λ (k : Option PaneKind). after_kind h k es) is;
         }
+
+      -- none is called for
+      pub not_called : (o : Option (Pane X)) → find place_cmp p es ≡ o → is_called q mark p (option_map (λ h. h.unshown) o) ≡ false → Fires [] es
+      not_called None is quiet = none_there is
+      not_called (Some h) is quiet = no_kind h is (no_kind_of (kind_on_record q mark p.end h.unshown) quiet)

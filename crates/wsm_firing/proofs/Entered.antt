@@ -15,6 +15,7 @@ use Rattle.wsm_semantics.specs.Query.{Query, Datum}
 use Rattle.wsm_semantics.specs.Panes.{is_there}
 use Rattle.wsm_semantics.specs.Firings.{is_enough, kind_on_record}
 use Rattle.wsm_semantics.specs.Summaries.{Pane, Plan, all_fired, fires, kind_by_record, withdrawn_firing}
+use Rattle.wsm_panes.specs.Entered.{IsToldAlone}
 use Rattle.wsm_firing.specs.ByRecord.{HasEntered, is_among, kind_at, places_entered}
 use Rattle.wsm_firing.proofs.SameKinds.{fires_same, fired_same}
 use Rattle.wsm_firing.proofs.ByKind.{told_same}
@@ -71,3 +72,12 @@ module _ (p : Program) (mark : ℤ) (key : ℕ) (time : ℤ) (session : Option W
   -- the windows of its time that are live
   pub alike_in_windows : (ws : List Window) → session ≡ None → ws ≡ live_windows_of p.header.shape time p.header.clock.lateness mark → AreAlike (map (at key) ws)
   alike_in_windows ws is listed = subst (λ (ws : List Window). AreAlike (map (at key) ws)) (sym listed) (alike_at None is)
+
+  -- also where the one window that the record has is told
+  pub entered_alone : (alone : Option Window) → IsToldAlone p.header.shape time p.header.clock.lateness mark session alone → HasEntered p mark key time alone es
+  entered_alone alone told = record {
+    timely = entered.timely;
+    marked = entered.marked;
+    grid = λ none. entered.grid (told.sessions none);
+    among = subst (λ (ws : List Window). AllByRecursion (λ e. is_there (query_of p) e.0 (datum 0 mark key time []) ≡ is_among (map (at key) ws) e.0) es) (sym told.windows) entered.among;
+  }

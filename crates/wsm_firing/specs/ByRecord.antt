@@ -1,6 +1,7 @@
 -- What fires on the turn of a record.
-use Rattle.std.specs.Prelude.{◌≡◌, ◌≢◌, ℕ, ℤ, Bool, List, [], ◌∷◌, map, Option, Some, None, length, if◌then◌else◌}
+use Rattle.std.specs.Prelude.{◌≡◌, ◌≢◌, ℕ, ℤ, Bool, false, List, [], ◌∷◌, map, Option, Some, None, length, if◌then◌else◌}
 use Rattle.std.specs.List.{AllByRecursion, list_any}
+use Rattle.std.specs.Option.{is_some}
 use Rattle.std.specs.Ordering.{eq_by_cmp}
 use Rattle.std.specs.declared.cmp.Ordering.TheVariants.{Less}
 use Rattle.wsm_record.specs.declared.event.Value.{Value}
@@ -10,7 +11,6 @@ use Rattle.wsm_windows.specs.declared.window.Shape.{Shape}
 use Rattle.wsm_windows.specs.declared.window.Shape.TheVariants.{Session}
 use Rattle.wsm_windows.specs.declared.window.Window.{Window}
 use Rattle.wsm_windows.specs.Windows.{IsTime}
-use Rattle.wsm_windows.specs.Life.{live_windows_of}
 use Rattle.wsm_windows.specs.declared.place.Place.{Place}
 use Rattle.wsm_windows.specs.Places.{place_cmp, at}
 use Rattle.wsm_semantics.specs.Query.{Query}
@@ -21,17 +21,15 @@ use Rattle.wsm_semantics.specs.Summaries.{Pane, Fired, fires, kind_by_record, wi
 use Rattle.wsm_program.specs.Program.{Program}
 use Rattle.wsm_machine.specs.Meaning.{query_of}
 use Rattle.wsm_panes.specs.Held.{Held, entries_of, with_entered}
+pub use Rattle.wsm_panes.specs.Entered.{windows_of_record}
+use Rattle.wsm_panes.specs.Entered.{unshown_at}
 use Rattle.wsm_firing.specs.declared.operator.Arrival.{Arrival}
 use Rattle.wsm_firing.specs.declared.operator.WindowState.{WindowState}
 use Rattle.wsm_firing.specs.Firing.{CanFire}
 
--- the windows that a record is put into at a mark: its session, or those of its time that are live
-abbrev pub windows_of_record : Shape → ℤ → ℤ → ℤ → Option Window → List Window
-windows_of_record shape lateness mark time (Some session) = session ∷ []
-windows_of_record shape lateness mark time None = live_windows_of shape time lateness mark
-
+-- the places of the windows that a record is put into, of which one may be told alone
 abbrev pub places_entered : Program → ℤ → ℕ → ℤ → Option Window → List Place
-places_entered p mark key time session = map (at key) (windows_of_record p.header.shape p.header.clock.lateness mark time session)
+places_entered p mark key time alone = map (at key) (windows_of_record p.header.shape p.header.clock.lateness mark time alone)
 
 -- what is held once a record that arrives is put in, folded by these values
 abbrev pub panes_entered : Program → Arrival → List Value → Held → List (Place × Pane (List Value))
@@ -44,6 +42,14 @@ is_among places p = list_any (eq_by_cmp place_cmp p) places
 -- what a pane at one of some places fires as, on the turn of a record in it
 abbrev pub kind_at : {X : Type 0} → Query → ℤ → List Place → Place → Pane X → Option PaneKind
 kind_at q mark places p h = if is_among places p then kind_on_record q mark p.end h.unshown else None
+
+-- whether the turn of a record in a pane with so many unshown records calls for it, where there is one
+abbrev pub is_called : Query → ℤ → Place → Option ℕ → Bool
+is_called q mark p None = false
+is_called q mark p (Some unshown) = is_some (kind_on_record q mark p.end unshown)
+
+abbrev pub is_called_at : Query → ℤ → Place → List (Place × Pane (List Value)) → Bool
+is_called_at q mark p es = is_called q mark p (unshown_at p es)
 
 -- each place before the next
 abbrev pub AreInOrder : List Place → Type 0
@@ -72,15 +78,15 @@ abbrev pub withdrawn_entered : Program → Arrival → List (Place × Pane (List
 withdrawn_entered p a panes = withdrawn_of_record p a.mark a.key a.time panes
 
 -- the panes that a record is in are those at the windows that it was put into at a mark
-pub record HasEntered (p : Program) (mark : ℤ) (key : ℕ) (time : ℤ) (session : Option Window) (panes : Panes) : Type 0 where
+pub record HasEntered (p : Program) (mark : ℤ) (key : ℕ) (time : ℤ) (alone : Option Window) (panes : Panes) : Type 0 where
   pub timely : IsTime time
   pub marked : IsTime mark
-  pub grid : session ≡ None → (gap : ℤ) → p.header.shape ≢ Session gap
-  pub among : AllByRecursion (λ e. is_there (query_of p) e.0 (datum 0 mark key time []) ≡ is_among (places_entered p mark key time session) e.0) panes
+  pub grid : alone ≡ None → (gap : ℤ) → p.header.shape ≢ Session gap
+  pub among : AllByRecursion (λ e. is_there (query_of p) e.0 (datum 0 mark key time []) ≡ is_among (places_entered p mark key time alone) e.0) panes
 
 -- a record has entered, and what fires can behind so many rows
-pub record CanFireByRecord (p : Program) (capacity rows : ℕ) (mark : ℤ) (key : ℕ) (time : ℤ) (session : Option Window) (panes : Panes) : Type 0 where
-  pub entered : HasEntered p mark key time session panes
+pub record CanFireByRecord (p : Program) (capacity rows : ℕ) (mark : ℤ) (key : ℕ) (time : ℤ) (alone : Option Window) (panes : Panes) : Type 0 where
+  pub entered : HasEntered p mark key time alone panes
   pub can : CanFire p capacity rows (fires_by_record p mark key time panes)
 
 -- the same of what is held by a window operator

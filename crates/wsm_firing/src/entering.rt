@@ -7,6 +7,7 @@ ghost use Rattle.wsm_windows.specs.declared.window.Shape.TheVariants.{Session};
 ghost use Rattle.wsm_semantics.specs.Replay.{datum};
 ghost use Rattle.wsm_semantics.specs.Summaries.{linked};
 ghost use Rattle.wsm_panes.specs.Held.{CanEnter, IsKept, entries_of, joins_sessions, session_entered, windows_entered};
+ghost use Rattle.wsm_panes.specs.Entered.{IsToldAlone};
 ghost use Rattle.wsm_firing.specs.ByRecord.{panes_entered};
 ghost use Rattle.wsm_firing.specs.Retracting.{LeavesRoom, WithdrawsJoined};
 ghost use Rattle.wsm_firing.specs.Streams.{AreAlike, CanLosePair, CanTell, IsTold, TellsEntered, TellsPanes, TellsRows, rows_and, rows_entered, standing_rows};
@@ -39,6 +40,7 @@ impl WindowState {
         ensures windows { result.windows ≡ windows_entered self.old.held.shape arrival.time verified.now.header.clock.lateness arrival.mark }
         ensures joined { result.joined ≡ joins_sessions self.old.held.shape (datum 0 (pos 0) arrival.key arrival.time []) (entries_of self.old.held) }
         ensures session { result.session ≡ session_entered self.old.held.shape (datum 0 (pos 0) arrival.key arrival.time []) (entries_of self.old.held) }
+        ensures alone { IsToldAlone self.old.held.shape arrival.time verified.now.header.clock.lateness arrival.mark result.session result.alone }
     {
         let header = verified.program().header();
         retract_joined(

@@ -12,7 +12,7 @@ ghost use Rattle.wsm_firing.specs.Fires.{CanFireBy, CanFireDue, FiresBy, FiresDu
 
 use crate::finding::windows_of_record;
 use crate::fire::Due;
-use crate::kinds::record_kind;
+use crate::kinds::{is_called, record_kind};
 use crate::operator::{Arrival, WindowOperator};
 use crate::retracting::retract_by_record;
 use crate::run::run;
@@ -23,16 +23,16 @@ use wsm_windows::{Place, Window, Windows};
 impl WindowOperator {
     /// Fires the panes that a selected record was put into and that its triggers call for, by end, then
     /// start. A row is written for each where HAVING is true and rows are those of panes, behind those
-    /// that withdraw what stood for them where panes retract, and the streams are told. The session is
-    /// the record's, where windows are sessions.
+    /// that withdraw what stood for them where panes retract, and the streams are told. The window is the one that it was
+    /// put into, where that is told, as a session is.
     pub fn fire_by_record(
         &mut self,
         verified: &Verified,
         arrival: Arrival,
-        session: Option<Window>,
+        alone: Option<Window>,
     ) -> Tally
         requires ready { AreReady verified.now self.old.state.held self.old.state.streams }
-        requires can { CanFireEntered verified.now self.old.state arrival session }
+        requires can { CanFireEntered verified.now self.old.state arrival alone }
         ensures { FiresOnTurn verified.now (kind_entered verified.now arrival) self.old.state self.new.state result }
     {
         let header = verified.program().header();
@@ -44,9 +44,9 @@ impl WindowOperator {
             &self.state.held,
             &mut self.state.rows,
             arrival,
-            session,
+            alone,
         );
-        self.fire_entered(verified, arrival, session)
+        self.fire_entered(verified, arrival, alone)
     }
 
     // Fires the panes that a record was put into. Their rows are written behind those that are there.
@@ -54,14 +54,14 @@ impl WindowOperator {
         &mut self,
         verified: &Verified,
         arrival: Arrival,
-        session: Option<Window>,
+        alone: Option<Window>,
     ) -> Tally
         requires ready { AreReady verified.now self.old.state.held self.old.state.streams }
-        requires entered { HasEntered verified.now arrival.mark arrival.key arrival.time session (entries_of self.old.state.held) }
+        requires entered { HasEntered verified.now arrival.mark arrival.key arrival.time alone (entries_of self.old.state.held) }
         requires can { CanFireBy verified.now (kind_entered verified.now arrival) self.old.state nothing }
         ensures { FiresBy verified.now (kind_entered verified.now arrival) self.old.state self.new.state nothing result }
     {
-        match session {
+        match alone {
             Some(window) => {
                 let mut tally = Tally::none();
                 let place = Place::at(arrival.key, window);
@@ -97,17 +97,28 @@ impl WindowOperator {
         requires can { CanFireBy verified.now (kind_at (query_of verified.now) mark (place ∷ [])) self.old.state tally.old }
         ensures { FiresBy verified.now (kind_at (query_of verified.now) mark (place ∷ [])) self.old.state self.new.state tally.old tally.new }
     {
+        if is_called(verified, &self.state.held, mark, place) {
+            self.fire_called(verified, tally, mark, place);
+        }
+    }
+
+    // The same of a pane that is called for. Most records fire none, so it isn't inlined.
+    #[inline(never)]
+    fn fire_called(&mut self, verified: &Verified, tally: &mut Tally, mark: i64, place: Place)
+        requires ready { AreReady verified.now self.old.state.held self.old.state.streams }
+        requires can { CanFireBy verified.now (kind_at (query_of verified.now) mark (place ∷ [])) self.old.state tally.old }
+        ensures { FiresBy verified.now (kind_at (query_of verified.now) mark (place ∷ [])) self.old.state self.new.state tally.old tally.new }
+    {
         let Some(spot) = self.state.held.find(place) else {
             return;
         };
         let pane = self.state.held.pane(spot);
-        if let Some(kind) = record_kind(verified, mark, place, &pane) {
+        if let Some(kind) = record_kind(verified, mark, place, pane.unshown()) {
             self.fire_held(verified, tally, Due { kind, spot });
         }
     }
 
-    // Fires a pane that is held. Most records fire none, so it isn't inlined.
-    #[inline(never)]
+    // Fires a pane that is held.
     fn fire_held(&mut self, verified: &Verified, tally: &mut Tally, due: Due)
         requires ready { AreReady verified.now self.old.state.held self.old.state.streams }
         requires held { IsSome (find place_cmp due.spot.place (entries_of self.old.state.held)) }

@@ -1,7 +1,6 @@
 use Rattle.std.proofs.Common.{◌≡◌, sym, ap, ◌∙◌, SFits, w64, to_z-of_z, arith}
 use Rattle.std.proofs.lemmas.Int.{ints, fits_signed_from_abs}
 use Rattle.std.specs.Prelude.{unsigned_abs}
-use Rattle.wsm_semantics.specs.Firings.{kind_on_record}
 use Rattle.wsm_program.specs.Program.{Program, Header}
 use Rattle.wsm_program.specs.View.{header_of}
 use Rattle.wsm_machine.specs.Meaning.{query_of}
@@ -21,4 +20,3 @@ returns c =
       early = ap (λ (h : Header). unsigned_abs h.early) (sym header) ∙ sym (simp to_z-of_z at c.unsigned_abs.ensures.value);
       late = ap (λ (h : Header). unsigned_abs h.late) (sym header) ∙ sym (simp to_z-of_z at c.unsigned_abs-2.ensures.value);
     }))
-    ∙ ap (kind_on_record (query_of p) c.args.mark c.args.place.end) c.unshown.ensures

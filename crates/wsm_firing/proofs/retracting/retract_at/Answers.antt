@@ -21,7 +21,9 @@ there : (c : After-pane-pane) → c.in-Some.spot.place ≡ c.args.place → find
 there c at = ap (λ r. find place_cmp r (entries_of c.args.held.now)) (sym at) ∙ c.pane-pane.ensures
 
 fires_is : (c : After-is_some) → is_some (kind_on_record (query_of c.args.verified.now) c.args.mark c.args.place.end c.pane-pane.result.unshown) ≡ c.is_some.result
-fires_is c = let mark : SFits w64 c.args.mark = c.ranges.mark in ap is_some (sym (simp to_z-of_z at c.record_kind.ensures)) ∙ sym c.is_some.ensures
+fires_is c =
+    let mark : SFits w64 c.args.mark = c.ranges.mark in
+    ap is_some (ap (kind_on_record (query_of c.args.verified.now) c.args.mark c.args.place.end) (sym c.unshown.ensures) ∙ sym (simp to_z-of_z at c.record_kind.ensures)) ∙ sym c.is_some.ensures
 
 pub returns-in_default-clause-rows : goal.returns-in_default-clause-rows
 returns-in_default-clause-rows c =

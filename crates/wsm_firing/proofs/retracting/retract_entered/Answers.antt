@@ -9,13 +9,13 @@ use Rattle.wsm_firing.proofs.RetractWalk.{Written}
 use Rattle.wsm_firing.proofs.retracting.retract_entered.Goals as goal
 use Rattle.wsm_firing.proofs.retracting.retract_entered.Goals.{After-at-place, After-windows_of_record-windows}
 
-in_session : (c : After-at-place) → AreAlike c.args.verified.now c.args.arrival.mark c.args.arrival.key c.args.arrival.time c.args.session (entries_of c.args.held.now) c.requires.entered (c.at-place.result ∷ [])
-in_session c = alike_in_session c.args.verified.now c.args.arrival.mark c.args.arrival.key c.args.arrival.time c.args.session (entries_of c.args.held.now) c.requires.entered c.in-Some.window c.at-place.result c.in-Some.is c.at-place.ensures
+in_session : (c : After-at-place) → AreAlike c.args.verified.now c.args.arrival.mark c.args.arrival.key c.args.arrival.time c.args.alone (entries_of c.args.held.now) c.requires.entered (c.at-place.result ∷ [])
+in_session c = alike_in_session c.args.verified.now c.args.arrival.mark c.args.arrival.key c.args.arrival.time c.args.alone (entries_of c.args.held.now) c.requires.entered c.in-Some.window c.at-place.result c.in-Some.is c.at-place.ensures
 
-in_windows : (c : After-windows_of_record-windows) → AreAlike c.args.verified.now c.args.arrival.mark c.args.arrival.key c.args.arrival.time c.args.session (entries_of c.args.held.now) c.requires.entered (map (at c.args.arrival.key) c.windows_of_record-windows.result)
+in_windows : (c : After-windows_of_record-windows) → AreAlike c.args.verified.now c.args.arrival.mark c.args.arrival.key c.args.arrival.time c.args.alone (entries_of c.args.held.now) c.requires.entered (map (at c.args.arrival.key) c.windows_of_record-windows.result)
 in_windows c =
     let mark : SFits w64 c.args.arrival.mark = search rules in let time : SFits w64 c.args.arrival.time = search rules in
-    alike_in_windows c.args.verified.now c.args.arrival.mark c.args.arrival.key c.args.arrival.time c.args.session (entries_of c.args.held.now) c.requires.entered c.windows_of_record-windows.result c.in-None.is (simp to_z-of_z at c.windows_of_record-windows.ensures.list)
+    alike_in_windows c.args.verified.now c.args.arrival.mark c.args.arrival.key c.args.arrival.time c.args.alone (entries_of c.args.held.now) c.requires.entered c.windows_of_record-windows.result c.in-None.is (simp to_z-of_z at c.windows_of_record-windows.ensures.list)
 
 pub retract_at-requires : goal.retract_at-requires
 retract_at-requires c =

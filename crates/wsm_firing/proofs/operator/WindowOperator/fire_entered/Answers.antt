@@ -11,14 +11,14 @@ use Rattle.wsm_firing.proofs.operator.WindowOperator.fire_entered.Goals as goal
 use Rattle.wsm_firing.proofs.operator.WindowOperator.fire_entered.Goals.{After-at-place, After-windows_of_record-windows}
 
 -- what fires at the record's session is what fires by the record
-in_session : (c : After-at-place) → AreAlike c.args.verified.now c.args.arrival.mark c.args.arrival.key c.args.arrival.time c.args.session (entries_of c.args.self.now.state.held) c.requires.entered (c.at-place.result ∷ [])
-in_session c = alike_in_session c.args.verified.now c.args.arrival.mark c.args.arrival.key c.args.arrival.time c.args.session (entries_of c.args.self.now.state.held) c.requires.entered c.in-Some.window c.at-place.result c.in-Some.is c.at-place.ensures
+in_session : (c : After-at-place) → AreAlike c.args.verified.now c.args.arrival.mark c.args.arrival.key c.args.arrival.time c.args.alone (entries_of c.args.self.now.state.held) c.requires.entered (c.at-place.result ∷ [])
+in_session c = alike_in_session c.args.verified.now c.args.arrival.mark c.args.arrival.key c.args.arrival.time c.args.alone (entries_of c.args.self.now.state.held) c.requires.entered c.in-Some.window c.at-place.result c.in-Some.is c.at-place.ensures
 
 -- what fires at the windows of the record's time is what fires by the record
-in_windows : (c : After-windows_of_record-windows) → AreAlike c.args.verified.now c.args.arrival.mark c.args.arrival.key c.args.arrival.time c.args.session (entries_of c.args.self.now.state.held) c.requires.entered (map (at c.args.arrival.key) c.windows_of_record-windows.result)
+in_windows : (c : After-windows_of_record-windows) → AreAlike c.args.verified.now c.args.arrival.mark c.args.arrival.key c.args.arrival.time c.args.alone (entries_of c.args.self.now.state.held) c.requires.entered (map (at c.args.arrival.key) c.windows_of_record-windows.result)
 in_windows c =
     let mark : SFits w64 c.args.arrival.mark = search rules in let time : SFits w64 c.args.arrival.time = search rules in
-    alike_in_windows c.args.verified.now c.args.arrival.mark c.args.arrival.key c.args.arrival.time c.args.session (entries_of c.args.self.now.state.held) c.requires.entered c.windows_of_record-windows.result c.in-None.is (simp to_z-of_z at c.windows_of_record-windows.ensures.list)
+    alike_in_windows c.args.verified.now c.args.arrival.mark c.args.arrival.key c.args.arrival.time c.args.alone (entries_of c.args.self.now.state.held) c.requires.entered c.windows_of_record-windows.result c.in-None.is (simp to_z-of_z at c.windows_of_record-windows.ensures.list)
 
 pub fire_at-requires-clause-can : goal.fire_at-requires-clause-can
 fire_at-requires-clause-can c =
