@@ -29,10 +29,11 @@ use Rattle.wsm_machine.specs.Sound.{IsDatumInRange}
 use Rattle.wsm_machine.proofs.TurnCosts.{record_cost_within}
 use Rattle.wsm_panes.specs.Held.{Held, entries_of, taking, with_entered, session_entered, joins_sessions, windows_entered, CanEnter}
 use Rattle.wsm_firing.specs.ByRecord.{CanFireByRecord}
+use Rattle.wsm_firing.proofs.Entered.{entered_alone}
 use Rattle.wsm_firing.specs.ByWatermark.{CanFireByWatermark}
 use Rattle.wsm_firing.specs.Streams.{HasRoomFor, relation_kept}
 use Rattle.wsm_firing.specs.declared.operator.WindowOperator.{WindowOperator}
-use Rattle.wsm_engine.specs.Operator.{IsOf, Comes, entering_cost}
+use Rattle.wsm_engine.specs.Operator.{IsAlone, IsOf, Comes, entering_cost}
 use Rattle.wsm_engine.proofs.RecordsByPlan.{entered_same}
 use Rattle.wsm_engine.proofs.Limits.{record_stated}
 use Rattle.wsm_engine.proofs.HeldByHistory.{Panes, kept_panes, kept_within}
@@ -114,14 +115,17 @@ module _ (p : Program) (past : List Event) (r : WindowOperator) (of : IsOf p r) 
     pub few_entered : (panes : Panes) → panes ≡ entered (plan_of p) p.header.shape p.header.clock.lateness (datum 0 m k t vs) (entries_of r.state.held) → length panes ≤ most_panes (query_of p)
     few_entered panes a = subst (λ xs. length xs ≤ most_panes (query_of p)) (sym (a ∙ after_is)) (now_within p (needed p) of.judged of.lawful past k t vs taken chosen)
 
-    -- the panes that it entered can be fired, behind so many rows
-    pub can_fire : (capacity rows : ℕ) (session : Option Window) (panes : Panes) → rows + rows_of_panes p.header.mode (length panes) ≤ capacity → session ≡ session_entered p.header.shape (datum 0 (pos 0) k t []) (entries_of r.state.held)
-        → panes ≡ entered (plan_of p) p.header.shape p.header.clock.lateness (datum 0 m k t vs) (entries_of r.state.held) → CanFireByRecord p capacity rows m k t session panes
-    can_fire capacity rows session panes room s a =
+    -- the panes that it entered can be fired, behind so many rows, also where the one window that it has is told
+    pub can_fire : (capacity rows : ℕ) (alone : Option Window) (panes : Panes) → rows + rows_of_panes p.header.mode (length panes) ≤ capacity → IsAlone p m k t (entries_of r.state.held) alone
+        → panes ≡ entered (plan_of p) p.header.shape p.header.clock.lateness (datum 0 m k t vs) (entries_of r.state.held) → CanFireByRecord p capacity rows m k t alone panes
+    can_fire capacity rows alone panes room told a =
+        let session = session_entered p.header.shape (datum 0 (pos 0) k t []) (entries_of r.state.held) in
+        let can : CanFireByRecord p capacity rows m k t session panes =
         subst (CanFireByRecord p capacity rows m k t session) (sym (a ∙ after_is))
-        (subst (λ o. CanFireByRecord p capacity rows m k t o (now p (needed p) of.judged of.lawful past k t vs taken)) (sym (s ∙ ap (session_entered p.header.shape (datum 0 (pos 0) k t [])) comes.panes))
+        (subst (λ o. CanFireByRecord p capacity rows m k t o (now p (needed p) of.judged of.lawful past k t vs taken)) (sym (ap (session_entered p.header.shape (datum 0 (pos 0) k t [])) comes.panes))
         (subst (λ n. CanFireByRecord p capacity rows n k t (session_entered p.header.shape (datum 0 (pos 0) k t []) es) (now p (needed p) of.judged of.lawful past k t vs taken)) (sym comes.marked)
-        (can_by_record p (needed p) of.judged of.lawful past k t vs taken chosen capacity rows (subst IsTime comes.marked comes.timely) (subst (λ (xs : Panes). rows + rows_of_panes p.header.mode (length xs) ≤ capacity) (a ∙ after_is) room))))
+        (can_by_record p (needed p) of.judged of.lawful past k t vs taken chosen capacity rows (subst IsTime comes.marked comes.timely) (subst (λ (xs : Panes). rows + rows_of_panes p.header.mode (length xs) ≤ capacity) (a ∙ after_is) room)))) in
+        record { entered = entered_alone p m k t session panes can.entered alone told; can = can.can }
 
   -- ---- a watermark
 

@@ -1,11 +1,12 @@
 -- The operator of a program: for what it has room, and what it keeps as an event comes.
-use Rattle.std.specs.Prelude.{◌≡◌, ℕ, ◌*◌, ◌+◌, ◌≤◌, List, [], ◌∷◌, ◌++◌, length, filter_map, ℤ, int_lt, Result, Ok, if◌then◌else◌}
+use Rattle.std.specs.Prelude.{◌≡◌, Option, pos, ℕ, ◌*◌, ◌+◌, ◌≤◌, List, [], ◌∷◌, ◌++◌, length, filter_map, ℤ, int_lt, Result, Ok, if◌then◌else◌}
 use Rattle.wsm_record.specs.declared.event.Value.{Value}
 use Rattle.wsm_record.specs.declared.cell.Cell.{Cell}
 use Rattle.wsm_record.specs.Event.{Event}
 use Rattle.wsm_record.specs.Modes.{retracts}
 use Rattle.wsm_windows.specs.Life.{live_bound}
 use Rattle.wsm_windows.specs.Windows.{IsTime}
+use Rattle.wsm_windows.specs.declared.window.Window.{Window}
 use Rattle.wsm_admission.specs.declared.verdict.Admitted.{Admitted}
 use Rattle.wsm_admission.specs.declared.verdict.Refusal.{Refusal}
 use Rattle.wsm_admission.specs.Admission.{answer}
@@ -24,7 +25,8 @@ use Rattle.wsm_rules.specs.Costs.{needed}
 use Rattle.wsm_rules.specs.Rules.{judge}
 use Rattle.wsm_machine.specs.Meaning.{query_of, plan_of, selects, update_run, joins_sessions, windows_entered}
 use Rattle.wsm_panes.specs.declared.widths.Widths.{Widths}
-use Rattle.wsm_panes.specs.Held.{Held, entries_of}
+use Rattle.wsm_panes.specs.Entered.{IsToldAlone}
+use Rattle.wsm_panes.specs.Held.{Held, entries_of, session_entered}
 use Rattle.wsm_firing.specs.Streams.{Told, IsTold, relation_before, standing_rows}
 use Rattle.std.specs.Prelude.{IsTrue}
 use Rattle.wsm_windows.specs.declared.place.Place.{Place}
@@ -69,6 +71,11 @@ pub record IsAt (mark : ℤ) (r : WindowOperator) (s : State (List Value)) : Typ
   pub marked : s.admission.mark ≡ mark
   pub panes : s.panes ≡ entries_of r.state.held
   pub relation : s.relation ≡ last_relation r.state.streams (entries_of r.state.held)
+
+-- the one window that is told of a record that is put in, if one is: its session, or the only one of its time
+abbrev pub IsAlone : Program → ℤ → ℕ → ℤ → List (Place × Pane (List Value)) → Option Window → Type 0
+IsAlone p mark key time panes alone =
+    IsToldAlone p.header.shape time p.header.clock.lateness mark (session_entered p.header.shape (datum 0 (pos 0) key time []) panes) alone
 
 -- what a record does that WHERE is asked of
 abbrev pub panes_with : Program → ℤ → ℕ → ℤ → List Value → List (Place × Pane (List Value)) → List (Place × Pane (List Value))

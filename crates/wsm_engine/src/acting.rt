@@ -5,12 +5,12 @@ ghost use Rattle.wsm_record.specs.Event.{Event as AnyEvent, event_of};
 ghost use Rattle.wsm_semantics.specs.Replay.{datum};
 ghost use Rattle.wsm_machine.specs.Inputs.{inputs_of};
 ghost use Rattle.wsm_machine.specs.Meaning.{record_inputs as inputs_of_record, selects};
-ghost use Rattle.wsm_panes.specs.Held.{IsKept, session_entered};
+ghost use Rattle.wsm_panes.specs.Held.{IsKept};
 ghost use Rattle.wsm_firing.specs.Tally.{nothing};
 ghost use Rattle.wsm_firing.specs.Streams.{AreAlike, CanAdvance, HasRoomFor, TellsPanes};
 ghost use Rattle.wsm_engine.specs.Acts.{Acts, AdvancesOnRise, Arrives, LeavesRoom, Rises, TakesRecord, TakesWatermark, WritesOnRise};
 ghost use Rattle.wsm_engine.specs.Acts.{panes_of, panes_once_entered, rows_entering};
-ghost use Rattle.wsm_engine.specs.Operator.{Comes, IsOf, entering_cost};
+ghost use Rattle.wsm_engine.specs.Operator.{Comes, IsAlone, IsOf, entering_cost};
 
 use wsm_admission::{Admitted, Refusal};
 use wsm_firing::{Arrival, Streams, Tally, TurnRows, WindowOperator};
@@ -106,8 +106,8 @@ fn take_record(
             tally: Tally::none(),
         };
     }
-    let (steps, session) = enter_record(operator, verified, arrival.mark, arrival.time, &inputs);
-    let tally = operator.fire_by_record(verified, arrival, session);
+    let (steps, alone) = enter_record(operator, verified, arrival.mark, arrival.time, &inputs);
+    let tally = operator.fire_by_record(verified, arrival, alone);
     Done {
         record_steps: kept.steps + steps,
         tally,
@@ -115,7 +115,7 @@ fn take_record(
 }
 
 // Runs UPDATE on a selected record, and puts what it gives into the record's panes. Answers the
-// steps and the record's session.
+// steps, and the one window that the record was put into, where that is at hand.
 fn enter_record(
     operator: &mut WindowOperator,
     verified: &Verified,
@@ -136,7 +136,7 @@ fn enter_record(
     ensures few { LeavesRoom verified.now operator.new }
     ensures room { operator.new.state.rows.room ≡ operator.old.state.rows.room }
     ensures steps { result.0 ≡ entering_cost verified.now mark inputs.now.key time inputs.now.values.now (panes_of operator.old) }
-    ensures session { result.1 ≡ session_entered verified.now.header.shape (datum 0 (pos 0) inputs.now.key time []) (panes_of operator.old) }
+    ensures alone { IsAlone verified.now mark inputs.now.key time (panes_of operator.old) result.1 }
 {
     let updated = operator.machine.update(verified, inputs);
     let steps = updated.steps;
@@ -149,7 +149,7 @@ fn enter_record(
     let kinds = &verified.program().header().kinds;
     (
         entered.windows * steps + join_steps(kinds, entered.joined),
-        entered.session,
+        entered.alone,
     )
 }
 

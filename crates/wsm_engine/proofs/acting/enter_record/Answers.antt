@@ -1,8 +1,11 @@
-use Rattle.std.proofs.Common.{◌≡◌, ◌∙◌, cond, length, refl, SFits, w64, to_z-of_z, sym, ap, arith}
+use Rattle.std.proofs.Common.{◌≡◌, ◌∙◌, [], Option, pos, subst, cond, length, refl, SFits, w64, to_z-of_z, sym, ap, arith}
 use Rattle.wsm_program.specs.Program.{Header}
 use Rattle.wsm_machine.specs.Meaning.{updated, query_of, plan_of}
 use Rattle.wsm_machine.proofs.RunAnswers.{updated_is}
-use Rattle.wsm_panes.specs.Held.{entries_of}
+use Rattle.wsm_windows.specs.declared.window.Shape.{Shape}
+use Rattle.wsm_windows.specs.declared.window.Window.{Window}
+use Rattle.wsm_panes.specs.Entered.{IsToldAlone}
+use Rattle.wsm_panes.specs.Held.{entries_of, session_entered}
 use Rattle.wsm_semantics.specs.HeldBounds.{most_panes}
 use Rattle.wsm_semantics.specs.Retractions.{retracted_in}
 use Rattle.wsm_semantics.specs.Summaries.{withdrawn_entering}
@@ -102,3 +105,14 @@ returns-clause-steps c =
     cost_is p comes.0 c.args.operator.now c.requires.program c.args.mark c.args.inputs.now.key c.args.time c.args.inputs.now.values.now comes.1 c.requires.selected
     c.enter-entered.result.windows c.update-updated.result.steps c.join_steps.result c.enter-entered.result.joined c.deref.result.now
     (simp to_z-of_z at c.enter-entered.ensures.windows) (rw c.requires.record at c.update-updated.ensures.steps) (simp to_z-of_z at c.enter-entered.ensures.joined) kinds c.join_steps.ensures
+
+pub returns-clause-alone : goal.returns-clause-alone
+returns-clause-alone c =
+    let p = c.args.verified.now in let held = c.args.operator.now.state.held in
+    let mark : SFits w64 c.args.mark = c.ranges.mark in
+    let time : SFits w64 c.args.time = c.ranges.time in
+    let alone = c.enter-entered.result.alone in
+    let session : c.enter-entered.result.session ≡ session_entered held.shape (datum 0 (pos 0) c.args.inputs.now.key c.args.time []) (entries_of held) = simp to_z-of_z at c.enter-entered.ensures.session in
+    let told : IsToldAlone held.shape c.args.time p.header.clock.lateness c.args.mark c.enter-entered.result.session alone = simp to_z-of_z at c.enter-entered.ensures.alone in
+    subst (λ (shape : Shape). IsToldAlone shape c.args.time p.header.clock.lateness c.args.mark (session_entered shape (datum 0 (pos 0) c.args.inputs.now.key c.args.time []) (entries_of held)) alone) c.requires.program.shape
+    (subst (λ (window : Option Window). IsToldAlone held.shape c.args.time p.header.clock.lateness c.args.mark window alone) session told)

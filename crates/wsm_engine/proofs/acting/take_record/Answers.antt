@@ -29,7 +29,7 @@ fire_by_record-tally-requires-clause-can c =
     let chosen : selects p c.args.arrival.key c.args.values.now ≡ true = keeps_is p c.args.arrival.key c.args.values.now c.keep-kept.result.keeps c.keep-kept.ensures.done c.keep-kept.ensures.keeps ∙ not-false _ c.if-not-kept.false in
     let room : length c.enter_record-steps.new.operator.state.rows.written + rows_of_panes p.header.mode (length (entries_of c.enter_record-steps.new.operator.state.held)) ≤ c.enter_record-steps.new.operator.state.rows.room = omega (arith, c.enter_record-steps.ensures.few, c.enter_record-steps.ensures.room, c.requires.program.rows) in
     (can_fire p past c.args.operator.now c.requires.program c.args.arrival.mark c.args.arrival.key c.args.arrival.time c.args.values.now comes chosen _ _ c.enter_record-steps.result.1 (entries_of c.enter_record-steps.new.operator.state.held)
-    room (simp to_z-of_z at c.enter_record-steps.ensures.session) (simp to_z-of_z at c.enter_record-steps.ensures.panes))
+    room (simp to_z-of_z at c.enter_record-steps.ensures.alone) (simp to_z-of_z at c.enter_record-steps.ensures.panes))
 
 pub overflow_add-result : goal.overflow_add-result
 overflow_add-result c =
