@@ -1,4 +1,4 @@
-use Rattle.std.proofs.Common.{◌≡◌, ◌∷◌, [], pos, List, sym, ap, ◌∙◌, Fits, SFits, w16, w64, to_z, of_z, ◌+ℤ◌, arith}
+use Rattle.std.proofs.Common.{◌≡◌, ◌∷◌, [], pos, List, sym, ap, ◌∙◌, Fits, w16, w64, to_z, of_z, ◌+ℤ◌, arith}
 use Rattle.std.proofs.lemmas.Int.{to_z-of_z}
 use Rattle.std.specs.FinMap as map
 use Rattle.wsm_windows.specs.declared.window.Window.{Window}

@@ -1,6 +1,6 @@
-use Rattle.std.proofs.Common.{◌≡◌, ◌∷◌, [], SFits, w64, to_z, of_z, rules, ◌+ℤ◌, ◌≤ℤ◌, arith}
+use Rattle.std.proofs.Common.{◌≡◌, SFits, w64, to_z, of_z, rules, ◌+ℤ◌, ◌≤ℤ◌, arith}
 use Rattle.std.proofs.lemmas.Int.{ints, to_z-of_z}
-use Rattle.wsm_windows.specs.Windows.{greatest_span, greatest_time, window}
+use Rattle.wsm_windows.specs.Windows.{greatest_span, greatest_time}
 use Rattle.wsm_panes.specs.Ring.{IsAlone, IsRing}
 use Rattle.wsm_panes.proofs.Rings.{between_fits}
 use Rattle.wsm_panes.proofs.Rows.{alone_on}
