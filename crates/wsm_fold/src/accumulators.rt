@@ -108,7 +108,9 @@ fn join_all(kinds: &[Kind], places: &mut [Value], values: &[Value])
     }
 }
 
-// Joins a value to the one in a place. Of two numbers only the number is written.
+// Joins a value to the one in a place. Of two numbers only the number is written. A record is folded in several
+// places, and none of them should call for it.
+#[inline(always)]
 fn join_in(kind: Kind, place: &mut Value, value: Value)
     requires { SumFits kind place.old value }
     ensures { place.new ≡ join_of kind place.old value }
