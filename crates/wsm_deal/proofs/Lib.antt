@@ -13,3 +13,6 @@ mod PartRuns
 mod DistinctKeys
 mod KeysTexts
 mod KeyGuesses
+mod KeyLines
+mod KeyNames
+mod Blocks

@@ -1,5 +1,7 @@
 pub mod Deal
+pub mod Keys
 pub mod KeysText
+pub mod KeyVectors
 pub mod PartCount
 pub mod PartText
 pub mod Parts

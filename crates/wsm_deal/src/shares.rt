@@ -1,11 +1,15 @@
 //! Which part has which keys.
 
-ghost use Rattle.std.specs.Prelude.{◌≡◌, ◌<◌, ◌∷◌, length, map, IfOk};
+ghost use Rattle.std.specs.Prelude.{◌≡◌, ◌<◌, ◌≤◌, ◌+◌, ◌∷◌, ◌⊎◌, ℕ, List, Err, IfErr, IfOk, Ok, OnOk, length, map};
+ghost use Rattle.std.specs.Int.{div_ceil};
+ghost use Rattle.wsm_deal.specs.Keys.{keys_a_part, keys_behind, keys_of_text, lines_of};
 ghost use Rattle.wsm_deal.specs.KeysText.{keys_text};
+ghost use Rattle.wsm_deal.specs.declared.shares.SharesRefusal.TheVariants as SharesRefusal;
 
 use crate::guesses::{Guesses, NEAR};
 use csv::ByteRecord;
 use indexmap::IndexSet;
+use memchr::memchr;
 use std::alloc::{AllocError, Global};
 use std::fmt;
 use std::marker::Model;
@@ -99,19 +103,30 @@ impl Model for Shares {
 }
 
 impl Shares {
-    ghost use Rattle.std.specs.Prelude.{◌≡◌, ◌<◌, ◌∷◌, ◌⊎◌, [], ℕ, List, IfErr, IfOk, IfSome, Some, bytes_eq, length, map, position, slice_get};
+    ghost use Rattle.std.specs.Prelude.{◌≡◌, ◌<◌, ◌≤◌, ◌∷◌, ◌⊎◌, [], ℕ, List, Err, IfErr, IfOk, IfSome, Ok, Some, bytes_eq, length, map, position, slice_get};
     ghost use Rattle.csv.specs.Records.{fields_of};
     ghost use Rattle.wsm_deal.specs.Deal.{goal_of, names_of, part_of, record_part};
+    ghost use Rattle.wsm_deal.specs.Keys.{sharing_of};
     ghost use Rattle.wsm_deal.specs.KeysText.{keys_text};
     ghost use Rattle.wsm_deal.specs.PartCount.{part_count};
     ghost use Rattle.wsm_deal.specs.Runs.{block_of};
     ghost use Rattle.wsm_record.specs.Guesses.{AreBytes, spelled};
     ghost use Rattle.wsm_deal.specs.declared.shares.SharesRefusal.TheVariants as SharesRefusal;
 
-    /// The keys of a text with a name a line, for so many parts.
-    pub fn of(alloc: Global, text: &[u8], parts: usize) -> Result<Shares, SharesRefusal> {
+    /// The keys of a text with a name a line, in blocks for so many parts.
+    ///
+    /// # Errors
+    ///
+    /// The first line that is no name or has that of one before is refused, then that there is none, and
+    /// then so few parts that one had more keys than a query, or so many that one had none.
+    pub fn of(alloc: Global, text: &[u8], parts: usize) -> Result<Shares, SharesRefusal>
+        ensures shared { IfOk result (λ shares. sharing_of text.now parts ≡ Ok shares) }
+        ensures parts { IfOk result (λ shares. part_count shares ≡ parts) }
+        ensures most { IfOk result (λ shares. shares.block ≤ MAX_NAMES) }
+        ensures refused { IfErr result (λ refusal. (refusal ≡ SharesRefusal.Memory) ⊎ (sharing_of text.now parts ≡ Err refusal)) }
+    {
         let names = names_of(alloc, text)?;
-        let block = block_of(names.len(), parts)?;
+        let block = keys_a_part(names.len(), parts)?;
         let guesses = Guesses::of(alloc, names.as_slice(), block)?;
         Ok(Shares {
             names,
@@ -294,50 +309,74 @@ fn keys_clause(alloc: Global, first: &[u8], rest: &[Vec<u8>]) -> Result<Vec<u8>,
     Ok(text)
 }
 
-fn names_of(alloc: Global, text: &[u8]) -> Result<IndexSet<Vec<u8>>, SharesRefusal> {
+// The keys of a text with a name a line.
+fn names_of(alloc: Global, text: &[u8]) -> Result<IndexSet<Vec<u8>>, SharesRefusal>
+    ensures read { IfOk result (λ names. keys_of_text text.now ≡ Ok (map (λ v. v.items) names.keys)) }
+    ensures refused { IfErr result (λ refusal. (refusal ≡ SharesRefusal.Memory) ⊎ (keys_of_text text.now ≡ Err refusal)) }
+{
     let mut names = IndexSet::new(alloc);
     let mut rest = text;
     let mut line = 0u64;
     while !rest.is_empty() {
-        line = line.saturating_add(1);
+        line += 1;
         let (name, next) = split_line(rest);
-        if Name::new(name).is_none() {
-            return Err(SharesRefusal::BadName(line));
-        }
-        match names.insert(name.to_vec(alloc)?) {
-            Ok(true) => {}
-            Ok(false) => return Err(SharesRefusal::DuplicateName(line)),
-            Err(_) => return Err(SharesRefusal::Memory),
-        }
+        add_name(alloc, &mut names, name, line)?;
         rest = next;
     }
     Ok(names)
 }
 
+// Adds the name of a line to those of the lines before.
+fn add_name(
+    alloc: Global,
+    names: &mut IndexSet<Vec<u8>>,
+    name: &[u8],
+    line: u64,
+) -> Result<(), SharesRefusal>
+    requires { line ≡ length names.old.keys + 1 }
+    ensures added { (lines : List (List ℕ)) → OnOk result (keys_behind (map (λ v. v.items) names.old.keys) (name.now ∷ lines) ≡ keys_behind (map (λ v. v.items) names.new.keys) lines) }
+    ensures count { OnOk result (length names.new.keys ≡ line) }
+    ensures refused { (lines : List (List ℕ)) → IfErr result (λ refusal. (refusal ≡ SharesRefusal.Memory) ⊎ (keys_behind (map (λ v. v.items) names.old.keys) (name.now ∷ lines) ≡ Err refusal)) }
+{
+    if Name::new(name).is_none() {
+        return Err(SharesRefusal::BadName(line));
+    }
+    match names.insert(name.to_vec(alloc)?) {
+        Ok(true) => Ok(()),
+        Ok(false) => Err(SharesRefusal::DuplicateName(line)),
+        Err(_) => Err(SharesRefusal::Memory),
+    }
+}
+
 // The first line of a text that isn't empty, and what is behind its end.
 fn split_line(text: &[u8]) -> (&[u8], &[u8])
     requires { 0 < length text.now }
-    ensures { length result.1.now < length text.now }
+    ensures line { lines_of text.now ≡ result.0.now ∷ lines_of result.1.now }
+    ensures shorter { length result.1.now < length text.now }
 {
-    match text.iter().position(|byte| *byte == b'\n') {
+    match memchr(b'\n', text) {
         Some(end) => (&text[..end], &text[end + 1..]),
         None => (text, &[]),
     }
 }
 
-// How many keys a part has.
-fn block_of(names: usize, parts: usize) -> Result<usize, SharesRefusal>
-    ensures { IfOk result (λ block. 0 < block) }
+// How many keys a part has, of so many keys and parts.
+fn keys_a_part(keys: usize, parts: usize) -> Result<usize, SharesRefusal>
+    ensures block { IfOk result (λ block. keys_a_part keys parts ≡ Ok block) }
+    ensures some { IfOk result (λ block. 0 < block) }
+    ensures most { IfOk result (λ block. block ≤ MAX_NAMES) }
+    ensures filled { IfOk result (λ block. div_ceil keys block ≡ parts) }
+    ensures refused { IfErr result (λ refusal. keys_a_part keys parts ≡ Err refusal) }
 {
-    if names == 0 {
+    if keys == 0 {
         return Err(SharesRefusal::NoNames);
     }
-    let least = names.div_ceil(MAX_NAMES);
+    let least = keys.div_ceil(MAX_NAMES);
     if parts < least {
         return Err(SharesRefusal::TooFewParts(least as u64));
     }
-    let block = names.div_ceil(parts);
-    let filled = names.div_ceil(block);
+    let block = keys.div_ceil(parts);
+    let filled = keys.div_ceil(block);
     if filled < parts {
         return Err(SharesRefusal::TooManyParts(filled as u64));
     }
