@@ -3,8 +3,9 @@
 ghost use Rattle.std.specs.Prelude.{◌≡◌, ◌<◌, ◌≤◌, ◌^◌, ◌/◌, ℕ, List, map, slice_get, Some, IfOk, IfSome};
 ghost use Rattle.wsm_deal.specs.KeyGuesses.{AreGuesses, IsGuess};
 
+use crate::words::{NO_WORDS, Words, words_of};
 use std::alloc::{AllocError, Global};
-use wsm_record::marks::{mark_of, place_of, word_of};
+use wsm_record::marks::{place_of, sum_of};
 
 // How many places there are at least for a key, so that few share one.
 const PLACES: usize = 8;
@@ -15,11 +16,10 @@ pub(crate) const NEAR: usize = 4;
 // The number of a guess where no key has the place.
 const NO_NUMBER: u32 = u32::MAX;
 
-/// A key to try for a text, by its number and its part, and its word: 0, which no text has, where it is too
-/// long for one.
+/// A key to try for a text, by its number and its part, and its words, where it isn't too long for them.
 #[derive(Clone, Copy)]
 pub(crate) struct Guess {
-    pub(crate) word: u64,
+    pub(crate) words: Words,
     pub(crate) number: u32,
     pub(crate) part: u32,
 }
@@ -45,7 +45,7 @@ impl Guesses {
         };
         let shift = places.leading_zeros() + 1;
         let unknown = Guess {
-            word: 0,
+            words: NO_WORDS,
             number: NO_NUMBER,
             part: 0,
         };
@@ -104,14 +104,17 @@ fn guess_of(key: &[u8], number: usize, block: usize) -> Guess
     requires { (0 < block) × (number < 2 ^ 32) }
     ensures { (names : List (List ℕ)) → slice_get names number ≡ Some key.now → IsGuess names block result }
 {
-    let part = (number / block) as u32;
-    let number = number as u32;
-    match word_of(key) {
-        Some(word) => Guess { word, number, part },
-        None => Guess {
-            word: 0,
-            number,
-            part,
-        },
+    Guess {
+        words: words_of(key).unwrap_or(NO_WORDS),
+        number: number as u32,
+        part: (number / block) as u32,
+    }
+}
+
+// A number made of all bytes of a key.
+fn mark_of(key: &[u8]) -> u64 {
+    match words_of(key) {
+        Some(words) => words.mark(),
+        None => sum_of(key),
     }
 }

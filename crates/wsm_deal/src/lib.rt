@@ -17,3 +17,4 @@ pub mod laws;
 mod part;
 mod row_text;
 mod shares;
+mod words;

@@ -7,6 +7,7 @@ ghost use Rattle.wsm_deal.specs.KeysText.{keys_text};
 ghost use Rattle.wsm_deal.specs.declared.shares.SharesRefusal.TheVariants as SharesRefusal;
 
 use crate::guesses::{Guesses, NEAR};
+use crate::words::{Words, long_words_of};
 use csv::ByteRecord;
 use indexmap::IndexSet;
 use memchr::memchr;
@@ -107,6 +108,7 @@ impl Shares {
     ghost use Rattle.csv.specs.Records.{fields_of};
     ghost use Rattle.wsm_deal.specs.Deal.{goal_of, names_of, part_of, record_part};
     ghost use Rattle.wsm_deal.specs.Keys.{sharing_of};
+    ghost use Rattle.wsm_deal.specs.KeyGuesses.{worth_of};
     ghost use Rattle.wsm_deal.specs.KeysText.{keys_text};
     ghost use Rattle.wsm_deal.specs.PartCount.{part_count};
     ghost use Rattle.wsm_deal.specs.Runs.{block_of};
@@ -209,40 +211,51 @@ impl Shares {
         ensures { result ≡ part_of self.now key.now }
     {
         match word_of(key) {
-            Some(word) => self.part_of_short(key, word),
+            Some(word) => self.part_of_words(key, Words::of_word(word)),
             None => self.part_of_long(key),
         }
     }
 
-    // The same of a key that has this word.
+    // The same of a key that has these words.
     #[inline(always)]
-    fn part_of_short(&self, key: &[u8], word: u64) -> usize
-        requires { spelled key.now ≡ word }
+    fn part_of_words(&self, key: &[u8], words: Words) -> usize
+        requires { spelled key.now ≡ worth_of words }
         ensures { result ≡ part_of self.now key.now }
     {
-        match self.guess_word(word, 0) {
+        match self.guess_words(words, 0) {
             Some(part) => part,
-            None => self.part_near(key, word),
+            None => self.part_near(key, words),
         }
     }
 
     // The same where what is tried at its place hasn't it.
     #[inline(never)]
-    fn part_near(&self, key: &[u8], word: u64) -> usize
-        requires { spelled key.now ≡ word }
+    fn part_near(&self, key: &[u8], words: Words) -> usize
+        requires { spelled key.now ≡ worth_of words }
         ensures { result ≡ part_of self.now key.now }
     {
         for step in 1..NEAR {
-            if let Some(part) = self.guess_word(word, step) {
+            if let Some(part) = self.guess_words(words, step) {
                 return part;
             }
         }
         self.search(key)
     }
 
-    // The part of a key that has no word.
+    // The part of a key of eight bytes or more.
     #[inline(never)]
     fn part_of_long(&self, key: &[u8]) -> usize
+        ensures { result ≡ part_of self.now key.now }
+    {
+        match long_words_of(key) {
+            Some(words) => self.part_of_words(key, words),
+            None => self.part_by_sum(key),
+        }
+    }
+
+    // The part of a key that has no words.
+    #[inline(never)]
+    fn part_by_sum(&self, key: &[u8]) -> usize
         ensures { result ≡ part_of self.now key.now }
     {
         let sum = sum_of(key);
@@ -254,20 +267,20 @@ impl Shares {
         self.search(key)
     }
 
-    // The part of a key with this word, where what is tried at this step has it.
+    // The part of a key with these words, where what is tried at this step has it.
     #[inline(always)]
-    fn guess_word(&self, word: u64, step: usize) -> Option<usize>
-        ensures { (key : List ℕ) → AreBytes key → spelled key ≡ word → IfSome result (λ part. part ≡ part_of self.now key) }
+    fn guess_words(&self, words: Words, step: usize) -> Option<usize>
+        ensures { (key : List ℕ) → AreBytes key → spelled key ≡ worth_of words → IfSome result (λ part. part ≡ part_of self.now key) }
     {
-        let guess = self.guesses.at(word, step)?;
-        if guess.word == word {
+        let guess = self.guesses.at(words.mark(), step)?;
+        if guess.words.are(words) {
             Some(guess.part as usize)
         } else {
             None
         }
     }
 
-    // The same of a key that has no word, by its sum.
+    // The same of a key that has no words, by its sum.
     #[inline(always)]
     fn guess_name(&self, key: &[u8], sum: u64, step: usize) -> Option<usize>
         ensures { IfSome result (λ part. part ≡ part_of self.now key.now) }

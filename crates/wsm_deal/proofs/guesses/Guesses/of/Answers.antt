@@ -7,7 +7,7 @@ use Rattle.wsm_deal.proofs.guesses.Guesses.of.Goals as goal
 
 pub loop-number-init : goal.loop-number-init
 loop-number-init c =
-    let unknown : Guess = record { word = 0; number = 4294967295; part = 0 } in
+    let unknown : Guess = record { words = record { head = 0; tail = 0 }; number = 4294967295; part = 0 } in
     unknown_alike (map (λ v. v.items) c.args.keys.now) c.args.block c.in_ok-guesses.guesses.items c.in-Some.places unknown (c.in_ok-guesses.ensures.items_if_clones_equal (λ _ e. e)) refl
 
 pub loop-number-preserved : goal.loop-number-preserved
