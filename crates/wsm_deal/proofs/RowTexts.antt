@@ -1,10 +1,10 @@
 -- A row that shows no byte, and a text that is made longer.
 use Rattle.std.proofs.Common.{◌≡◌, ◌≢◌, ◌==◌, ◌∷◌, ◌++◌, ◌∙◌, [], ℕ, suc, List, true, false, refl, sym, ap, length, length-append, append_assoc, get_or, take, take-take, inl, inr, arith}
 use Rattle.std.proofs.Math.Seq.{take-append_seam}
-use Rattle.std.specs.Prelude.{◌+◌, ◌<◌, ◌≤◌}
+use Rattle.std.specs.Prelude.{◌+◌, ◌-◌, ◌<◌, ◌≤◌}
 use Rattle.std.proofs.lemmas.Bool.{cases_Bool, ne_eqb}
 use Rattle.std.specs.List.{list_any}
-use Rattle.csv.specs.Writing.{default_writer, escaped, field_text, fields_text, is_blank, needs_byte, next_sep, row_body, row_text}
+use Rattle.csv.specs.Writing.{default_writer, escaped, field_text, is_blank, needs_byte, next_sep, row_body, row_text}
 use Rattle.csv.proofs.WriteFacts.{row-step}
 
 more_than_none : (xs : List ℕ) → (suc (length xs) == 0) ≡ false
@@ -60,24 +60,29 @@ text_of_more cells more =
     let shows : is_blank default_writer cells ≡ false = sym (blank_of_more cells (λ e. omega (arith, more, e)) (λ e. omega (arith, more, e))) in
     rw shows refl
 
--- these cells are those of a row of four
-pub four_cells : (cells : List (List ℕ)) (a b c d : List ℕ) → length cells ≡ 4 → a ≡ get_or cells 0 [] → b ≡ get_or cells 1 [] → c ≡ get_or cells 2 [] → d ≡ get_or cells 3 [] → a ∷ b ∷ c ∷ d ∷ [] ≡ cells
-four_cells [] a b c d e ha hb hc hd = cc e
-four_cells (w ∷ []) a b c d e ha hb hc hd = absurd (omega (arith, e))
-four_cells (w ∷ x ∷ []) a b c d e ha hb hc hd = absurd (omega (arith, e))
-four_cells (w ∷ x ∷ y ∷ []) a b c d e ha hb hc hd = absurd (omega (arith, e))
-four_cells (w ∷ x ∷ y ∷ z ∷ []) a b c d e ha hb hc hd = rw (ha, hb, hc, hd) refl
-four_cells (w ∷ x ∷ y ∷ z ∷ v ∷ rest) a b c d e ha hb hc hd = absurd (omega (arith, e))
+-- the first cell, and a comma behind it
+pub first_behind : (cells : List (List ℕ)) (start new cell : List ℕ) → 0 < length cells → cell ≡ get_or cells 0 [] → new ≡ start ++ (field_text default_writer cell ++ 44 ∷ [])
+    → new ≡ start ++ (row_body default_writer (take 1 cells) ++ 44 ∷ [])
+first_behind cells start new cell some is grown =
+    grown ∙ ap (λ (c : List ℕ). start ++ (field_text default_writer c ++ 44 ∷ [])) is ∙ ap (λ (t : List ℕ). start ++ (t ++ 44 ∷ [])) (sym (first_body cells some))
 
--- four texts one behind the other, each with the byte behind it
-four_behind : (out a b c d : List ℕ)
-    → (((out ++ (a ++ 44 ∷ [])) ++ (b ++ 44 ∷ [])) ++ (c ++ 44 ∷ [])) ++ (d ++ 10 ∷ []) ≡ out ++ ((a ++ (44 ∷ (b ++ (44 ∷ (c ++ (44 ∷ (d ++ []))))))) ++ 10 ∷ [])
-four_behind out a b c d = simp (append_assoc) refl
+commas_behind : (start body text : List ℕ) → (start ++ (body ++ 44 ∷ [])) ++ (text ++ 44 ∷ []) ≡ start ++ ((body ++ (44 ∷ text)) ++ 44 ∷ [])
+commas_behind start body text = simp (append_assoc) refl
 
--- the text of a row of four cells, made cell by cell
-pub text_of_four : (a b c d out one two three four : List ℕ) → one ≡ out ++ (field_text default_writer a ++ 44 ∷ []) → two ≡ one ++ (field_text default_writer b ++ 44 ∷ [])
-    → three ≡ two ++ (field_text default_writer c ++ 44 ∷ []) → four ≡ three ++ (field_text default_writer d ++ 10 ∷ [])
-    → four ≡ out ++ row_text default_writer (a ∷ b ∷ c ∷ d ∷ [])
-unfolding fields_text is_blank
-text_of_four a b c d out one two three four h1 h2 h3 h4 =
-    rw (h4, h3, h2, h1) (four_behind out (field_text default_writer a) (field_text default_writer b) (field_text default_writer c) (field_text default_writer d))
+-- one cell more, and a comma behind it
+pub next_behind : (cells : List (List ℕ)) (i : ℕ) (start old new cell : List ℕ) → 0 < i → i < length cells → cell ≡ get_or cells i []
+    → old ≡ start ++ (row_body default_writer (take i cells) ++ 44 ∷ []) → new ≡ old ++ (field_text default_writer cell ++ 44 ∷ [])
+    → new ≡ start ++ (row_body default_writer (take (i + 1) cells) ++ 44 ∷ [])
+next_behind cells i start old new cell some within is before grown =
+    grown
+    ∙ ap (λ (c : List ℕ). old ++ (field_text default_writer c ++ 44 ∷ [])) is
+    ∙ ap (λ (t : List ℕ). t ++ (field_text default_writer (get_or cells i []) ++ 44 ∷ [])) before
+    ∙ commas_behind start (row_body default_writer (take i cells)) (field_text default_writer (get_or cells i []))
+    ∙ ap (λ (t : List ℕ). start ++ (t ++ 44 ∷ [])) (sym (next_body cells i some within))
+
+-- a line whose last comma gives way to a line feed
+pub last_given_way : (line old kept : List ℕ) (n : ℕ) → old ≡ line ++ 44 ∷ [] → n ≡ length old → kept ≡ take (n - 1) old → kept ++ 10 ∷ [] ≡ line ++ 10 ∷ []
+last_given_way line old kept n is count cut =
+    let long : length old ≡ length line + 1 = ap (λ (t : List ℕ). length t) is ∙ length-append line (44 ∷ []) in
+    let less : n - 1 ≡ length line = omega (arith, long, count) in
+    ap (λ (t : List ℕ). t ++ 10 ∷ []) (cut ∙ ap (λ (m : ℕ). take m old) less ∙ ap (take (length line)) is ∙ take-append_seam line (44 ∷ []))

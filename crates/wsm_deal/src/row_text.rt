@@ -9,8 +9,11 @@ use csv::ByteRecord;
 use std::alloc::AllocError;
 use std::mem;
 
-// How many bytes a row of four short cells has at most: 15 in each, and one behind it.
-const SHORT_ROOM: usize = 64;
+// How many cells a row of few has at most.
+const FEW: usize = 8;
+
+// How many bytes are asked for a row of few short cells: for 15 in each and one behind it, and one for the end.
+const SHORT_ROOM: usize = 16 * FEW + 1;
 
 /// Adds the text of a row, as `csv` writes it.
 #[inline(always)]
@@ -38,8 +41,8 @@ fn make_short_room(out: &mut Vec<u8>) -> Result<(), AllocError>
     Ok(())
 }
 
-// Adds the text of a row of four short cells, as records of one value have them, that need no quotes, and
-// answers whether it did. Of another one a part may be added.
+// Adds the text of a row of three to eight short cells, as most records are, that need no quotes, and answers
+// whether it did. Of another one a part may be added.
 #[inline(always)]
 fn add_short_row(row: &ByteRecord, out: &mut Vec<u8>) -> bool
     requires { vec_len out.old + SHORT_ROOM ≤ vec_capacity out.old }
@@ -60,36 +63,48 @@ fn with_short_row(row: &ByteRecord, mut text: Vec<u8>) -> (bool, Vec<u8>)
     ensures all { result.0 ≡ true → result.1.items ≡ text.items ++ csv.row_text csv.default_writer (fields_of row.now) }
     ensures kept { take (length text.items) result.1.items ≡ text.items }
 {
-    if row.len() != 4 {
+    let cells = row.len();
+    if cells < 3 || FEW < cells {
         return (false, text);
     }
-    let is_short = add_cells(
-        cell_at(row, 0),
-        cell_at(row, 1),
-        cell_at(row, 2),
-        cell_at(row, 3),
-        &mut text,
-    );
-    (is_short, text)
+    if !add_three(row, &mut text) {
+        return (false, text);
+    }
+    for place in 3..cells {
+        if !add_short(cell_at(row, place), b',', &mut text) {
+            return (false, text);
+        }
+    }
+    end_line(&mut text);
+    (true, text)
 }
 
-// Adds the text of a row of these cells, as that of a row of short ones.
+// Adds the first three cells of a row, and a comma behind each.
 #[inline(always)]
-fn add_cells(tag: &[u8], key: &[u8], time: &[u8], value: &[u8], out: &mut Vec<u8>) -> bool
-    requires { vec_len out.old + SHORT_ROOM ≤ vec_capacity out.old }
-    ensures all { result ≡ true → out.new.items ≡ out.old.items ++ csv.row_text csv.default_writer (tag.now ∷ key.now ∷ time.now ∷ value.now ∷ []) }
+fn add_three(row: &ByteRecord, out: &mut Vec<u8>) -> bool
+    requires cells { 3 ≤ length (fields_of row.now) }
+    requires room { vec_len out.old + 48 ≤ vec_capacity out.old }
+    ensures room { (vec_len out.new ≤ vec_len out.old + 48) × (vec_capacity out.new ≡ vec_capacity out.old) }
+    ensures all { result ≡ true → out.new.items ≡ out.old.items ++ (csv.row_body csv.default_writer (take 3 (fields_of row.now)) ++ 44 ∷ []) }
     ensures kept { take (length out.old.items) out.new.items ≡ out.old.items }
 {
-    if !add_short(tag, b',', out) {
+    if !add_short(cell_at(row, 0), b',', out) {
         return false;
     }
-    if !add_short(key, b',', out) {
+    if !add_short(cell_at(row, 1), b',', out) {
         return false;
     }
-    if !add_short(time, b',', out) {
-        return false;
-    }
-    add_short(value, b'\n', out)
+    add_short(cell_at(row, 2), b',', out)
+}
+
+// Ends a row in the place of the comma behind its last cell.
+#[inline(always)]
+fn end_line(out: &mut Vec<u8>)
+    requires { vec_len out.old < vec_capacity out.old }
+    ensures { (line : List ℕ) → out.old.items ≡ line ++ 44 ∷ [] → out.new.items ≡ line ++ 10 ∷ [] }
+{
+    let _comma = out.pop();
+    out.push_reserved(b'\n');
 }
 
 // Adds a cell of 15 bytes or less that needs no quotes, and a byte behind it, and answers whether it did.

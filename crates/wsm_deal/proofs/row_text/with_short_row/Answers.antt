@@ -1,12 +1,38 @@
-use Rattle.std.proofs.Common.{◌∙◌, ◌++◌, List, ℕ, ap, arith}
+use Rattle.std.proofs.Common.{◌≡◌, ◌<◌, ◌≤◌, ◌∙◌, ◌∷◌, ◌++◌, [], List, ℕ, ap, append_assoc, arith, length, sym, take, refl}
+use Rattle.std.proofs.Math.Seq.{take-append_seam}
+use Rattle.std.proofs.lemmas.List.{take_all}
 use Rattle.csv.specs.Records.{fields_of}
-use Rattle.csv.specs.Writing.{default_writer, row_text}
-use Rattle.wsm_deal.proofs.RowTexts.{four_cells}
+use Rattle.csv.specs.Writing.{default_writer, row_body, row_text}
+use Rattle.wsm_deal.proofs.RowTexts.{next_behind, start_kept, text_of_more}
 use Rattle.wsm_deal.proofs.row_text.with_short_row.Goals as goal
 
+pub loop-place-preserved : goal.loop-place-preserved
+loop-place-preserved c =
+    let f = fields_of c.args.row.now in
+    let (body, some, room) = c.loop-place.invariant in
+    let within : c.loop-place.place < length f = omega (arith, c.loop-place-test.true, c.len-cells.ensures) in (
+      next_behind f c.loop-place.place c.args.text.items c.loop-place.text.items c.add_short.new.out.items c.cell_at.result.now (omega (arith, some)) within c.cell_at.ensures body (c.add_short.ensures.all c.if-not-add_short.false),
+      omega (arith, some),
+      omega (arith, room, within, c.add_short.ensures.room.0, c.add_short.ensures.room.1),
+    )
+
+pub returns-then-not-add_short-clause-kept : goal.returns-then-not-add_short-clause-kept
+returns-then-not-add_short-clause-kept c =
+    let (body, some, room) = c.loop-place.invariant in
+    start_kept c.args.text.items c.loop-place.text.items c.add_short.new.out.items (row_body default_writer (take c.loop-place.place (fields_of c.args.row.now)) ++ 44 ∷ []) body c.add_short.ensures.kept
+
 pub returns-clause-all : goal.returns-clause-all
-returns-clause-all c = λ whole.
-    c.add_cells-is_short.ensures.all whole
-    ∙ ap (λ (cells : List (List ℕ)). c.args.text.items ++ row_text default_writer cells)
-    (four_cells (fields_of c.args.row.now) c.cell_at.result.now c.cell_at-2.result.now c.cell_at-3.result.now c.cell_at-4.result.now (omega (arith, c.if-len-ne4.false, c.len.ensures)) c.cell_at.ensures
-    c.cell_at-2.ensures c.cell_at-3.ensures c.cell_at-4.ensures)
+returns-clause-all c = λ _.
+    let f = fields_of c.args.row.now in
+    let start = c.args.text.items in
+    let i = c.loop-place.place in
+    let (body, some, room) = c.loop-place.invariant in
+    let more : 2 ≤ length f = omega (arith, c.if-cells-lt3.false, c.len-cells.ensures) in
+    let all : take i f ≡ f = take_all i f (omega (arith, c.loop-place-test.false, c.len-cells.ensures)) in
+    let ended = body ∙ ap (λ (cells : List (List ℕ)). start ++ (row_body default_writer cells ++ 44 ∷ [])) all ∙ sym (append_assoc start (row_body default_writer f) (44 ∷ [])) in
+    c.end_line.ensures (start ++ row_body default_writer f) ended
+    ∙ append_assoc start (row_body default_writer f) (10 ∷ [])
+    ∙ ap (λ (t : List ℕ). start ++ t) (sym (text_of_more f more))
+
+pub returns-clause-kept : goal.returns-clause-kept
+returns-clause-kept c = ap (take (length c.args.text.items)) (returns-clause-all c refl) ∙ take-append_seam c.args.text.items (row_text default_writer (fields_of c.args.row.now))
