@@ -347,9 +347,11 @@ fn add_name(
     line: u64,
 ) -> Result<(), SharesRefusal>
     requires { line ≡ length names.old.keys + 1 }
-    ensures added { (lines : List (List ℕ)) → OnOk result (keys_behind (map (λ v. v.items) names.old.keys) (name.now ∷ lines) ≡ keys_behind (map (λ v. v.items) names.new.keys) lines) }
+    ensures added { (lines : List (List ℕ)) →
+        OnOk result (keys_behind (map (λ v. v.items) names.old.keys) (name.now ∷ lines) ≡ keys_behind (map (λ v. v.items) names.new.keys) lines) }
     ensures count { OnOk result (length names.new.keys ≡ line) }
-    ensures refused { (lines : List (List ℕ)) → IfErr result (λ refusal. (refusal ≡ SharesRefusal.Memory) ⊎ (keys_behind (map (λ v. v.items) names.old.keys) (name.now ∷ lines) ≡ Err refusal)) }
+    ensures refused { (lines : List (List ℕ)) →
+        IfErr result (λ refusal. (refusal ≡ SharesRefusal.Memory) ⊎ (keys_behind (map (λ v. v.items) names.old.keys) (name.now ∷ lines) ≡ Err refusal)) }
 {
     if Name::new(name).is_none() {
         return Err(SharesRefusal::BadName(line));
