@@ -16,7 +16,7 @@ pub(crate) const NEAR: usize = 4;
 // The number of a guess where no key has the place.
 const NO_NUMBER: u32 = u32::MAX;
 
-/// A key to try for a text, by its number and its part, and its words, where it isn't too long for them.
+/// A key to try for a text: its words, which are none where it is too long for some, its number and its part.
 #[derive(Clone, Copy)]
 pub(crate) struct Guess {
     pub(crate) words: Words,

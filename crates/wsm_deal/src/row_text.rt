@@ -71,7 +71,7 @@ fn with_short_row(row: &ByteRecord, mut text: Vec<u8>) -> (bool, Vec<u8>)
         return (false, text);
     }
     for place in 3..cells {
-        if !add_short(cell_at(row, place), b',', &mut text) {
+        if !add_short(cell_at(row, place), &mut text) {
             return (false, text);
         }
     }
@@ -79,7 +79,8 @@ fn with_short_row(row: &ByteRecord, mut text: Vec<u8>) -> (bool, Vec<u8>)
     (true, text)
 }
 
-// Adds the first three cells of a row, and a comma behind each.
+// Adds the first three cells of a row, where they are short and need no quotes, with a comma behind each, and
+// answers whether it did. Of others a part may be added.
 #[inline(always)]
 fn add_three(row: &ByteRecord, out: &mut Vec<u8>) -> bool
     requires cells { 3 ≤ length (fields_of row.now) }
@@ -88,13 +89,13 @@ fn add_three(row: &ByteRecord, out: &mut Vec<u8>) -> bool
     ensures all { result ≡ true → out.new.items ≡ out.old.items ++ (csv.row_body csv.default_writer (take 3 (fields_of row.now)) ++ 44 ∷ []) }
     ensures kept { take (length out.old.items) out.new.items ≡ out.old.items }
 {
-    if !add_short(cell_at(row, 0), b',', out) {
+    if !add_short(cell_at(row, 0), out) {
         return false;
     }
-    if !add_short(cell_at(row, 1), b',', out) {
+    if !add_short(cell_at(row, 1), out) {
         return false;
     }
-    add_short(cell_at(row, 2), b',', out)
+    add_short(cell_at(row, 2), out)
 }
 
 // Ends a row in the place of the comma behind its last cell.
@@ -107,18 +108,18 @@ fn end_line(out: &mut Vec<u8>)
     out.push_reserved(b'\n');
 }
 
-// Adds a cell of 15 bytes or less that needs no quotes, and a byte behind it, and answers whether it did.
+// Adds a cell of 15 bytes or less that needs no quotes, and a comma behind it, and answers whether it did.
 #[inline(always)]
-fn add_short(cell: &[u8], next: u8, out: &mut Vec<u8>) -> bool
+fn add_short(cell: &[u8], out: &mut Vec<u8>) -> bool
     requires { vec_len out.old + 16 ≤ vec_capacity out.old }
     ensures room { (vec_len out.new ≤ vec_len out.old + 16) × (vec_capacity out.new ≡ vec_capacity out.old) }
-    ensures all { result ≡ true → out.new.items ≡ out.old.items ++ (csv.field_text csv.default_writer cell.now ++ next ∷ []) }
+    ensures all { result ≡ true → out.new.items ≡ out.old.items ++ (csv.field_text csv.default_writer cell.now ++ 44 ∷ []) }
     ensures kept { take (length out.old.items) out.new.items ≡ out.old.items }
 {
     let behind_four = add_four(cell, out);
     let behind_eight = add_four(behind_four, out);
     let rest = add_four(behind_eight, out);
-    add_few(rest, next, out)
+    add_few(rest, out)
 }
 
 // Adds the first four bytes of a cell at once, where there are so many and none needs quotes, and gives the rest.
@@ -139,30 +140,30 @@ fn add_four<'a>(cell: &'a [u8], out: &mut Vec<u8>) -> &'a [u8]
     }
 }
 
-// Adds a cell of three bytes or less that needs no quotes, and a byte behind it, and answers whether it did.
+// Adds a cell of three bytes or less that needs no quotes, and a comma behind it, and answers whether it did.
 // Of another one nothing is added.
 #[inline(always)]
-fn add_few(cell: &[u8], next: u8, out: &mut Vec<u8>) -> bool
+fn add_few(cell: &[u8], out: &mut Vec<u8>) -> bool
     requires { vec_len out.old + 4 ≤ vec_capacity out.old }
     ensures room { (vec_len out.new ≤ vec_len out.old + 4) × (vec_capacity out.new ≡ vec_capacity out.old) }
-    ensures all { out.new.items ≡ (if result then out.old.items ++ (cell.now ++ next ∷ []) else out.old.items) }
+    ensures all { out.new.items ≡ (if result then out.old.items ++ (cell.now ++ 44 ∷ []) else out.old.items) }
     ensures needs { result ≡ true → csv.needs_quotes csv.default_writer cell.now ≡ false }
 {
     match cell {
         [] => {
-            out.push_reserved(next);
+            out.push_reserved(b',');
             true
         }
         [a] if is_bare(*a) => {
-            push_two(*a, next, out);
+            push_two(*a, b',', out);
             true
         }
         [a, b] if is_bare(*a) && is_bare(*b) => {
-            push_three(*a, *b, next, out);
+            push_three(*a, *b, b',', out);
             true
         }
         [a, b, c] if is_bare(*a) && is_bare(*b) && is_bare(*c) => {
-            push_four(*a, *b, *c, next, out);
+            push_four(*a, *b, *c, b',', out);
             true
         }
         _ => false,

@@ -6,8 +6,8 @@ ghost use Rattle.wsm_record.specs.Guesses.{spelled};
 
 use wsm_record::marks::word_of;
 
-/// The bytes of a text of one to fifteen, which no other text has: those of one to seven as one number, else
-/// the first eight as one and the others as another.
+/// A text of one to fifteen bytes as two numbers, which no other text has: of up to seven bytes its word and 0,
+/// of more the first eight and the word of the others.
 #[derive(Clone, Copy)]
 pub(crate) struct Words {
     pub(crate) head: u64,
@@ -32,7 +32,7 @@ impl Words {
         }
     }
 
-    /// Whether they are these words.
+    /// Whether they are those of the same text.
     #[inline(always)]
     pub(crate) fn are(&self, others: Words) -> bool
         ensures { result ≡ true → worth_of self.now ≡ worth_of others }
