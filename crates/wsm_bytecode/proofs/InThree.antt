@@ -1,12 +1,9 @@
 -- Three readings one behind the other, and what is made of them, as one reading of the three: so a function reads them that
 -- is called with the rest of a header or a program in its caller's hands.
 use Rattle.std.proofs.Common.{◌≡◌, ℕ, ℤ, List, Ok, Err, refl}
-use Rattle.std.specs.Prelude.{◌==◌}
-use Rattle.std.specs.Int.{w8}
 use Rattle.wsm_record.specs.declared.Kind.{Kind}
 use Rattle.wsm_record.specs.declared.Mode.{Mode}
 use Rattle.wsm_record.specs.declared.Form.{Form}
-use Rattle.wsm_record.specs.Name.{is_between}
 use Rattle.wsm_record.specs.Schema.{is_source_count}
 use Rattle.wsm_record.specs.declared.words.CellType.{CellType}
 use Rattle.wsm_program.specs.declared.instr.Instr.{Instr}
@@ -15,7 +12,7 @@ use Rattle.wsm_program.specs.Program.{Header}
 use Rattle.wsm_bytecode.specs.declared.version.Version.{Version}
 use Rattle.wsm_bytecode.specs.Parts.{Settings}
 use Rattle.wsm_bytecode.specs.Version2.{windows_at, form_at, shown_at, settings_at as second_settings_at}
-use Rattle.wsm_bytecode.specs.Steps.{Read, ◌>>=◌, judged, number_at, sources_at, mode_at, triggers_at, names_at, fields_at, times_at, kinds_at, columns_at, budget_at}
+use Rattle.wsm_bytecode.specs.Steps.{Read, ◌>>=◌, truth_at, sources_at, mode_at, triggers_at, names_at, fields_at, times_at, kinds_at, columns_at, budget_at}
 use Rattle.wsm_bytecode.specs.Reading.{settings_at, schema_of, clock_of, header_at, back_at, code_at, parts_at, sections_at}
 
 -- what three readings gave, and the bytes behind them
@@ -81,7 +78,7 @@ header_in_parts v bytes = λ i.
 -- behind their windows the settings of version 2 are read as one
 pub settings_in_parts : (bytes : List ℕ)
     → second_settings_at bytes
-    ≡ (judged (is_between 0 1) (number_at w8 bytes) >>= λ flag. sources_at is_source_count flag.1 >>= λ names. windows_at (flag.0 == 1) names.1 >>= λ windows.
+    ≡ (truth_at bytes >>= λ from_window. sources_at is_source_count from_window.1 >>= λ names. windows_at from_window.0 names.1 >>= λ windows.
     shown_at windows.1 >>= λ shown.
     Ok (
       record { shape = windows.0.0; from_window = windows.0.1; mode = shown.0.0; early = shown.0.1.0.0; late = shown.0.1.0.1; form = shown.0.1.1; sources = names.0 },
@@ -89,7 +86,7 @@ pub settings_in_parts : (bytes : List ℕ)
     ))
 unfolding second_settings_at shown_at
 settings_in_parts bytes = λ i.
-    judged (is_between 0 1) (number_at w8 bytes) >>= λ flag. sources_at is_source_count flag.1 >>= λ names. windows_at (flag.0 == 1) names.1 >>= λ windows.
+    truth_at bytes >>= λ from_window. sources_at is_source_count from_window.1 >>= λ names. windows_at from_window.0 names.1 >>= λ windows.
     let make : Mode → ℤ × ℤ → Form → Settings = λ mode triggers form. record {
       shape = windows.0.0;
       from_window = windows.0.1;

@@ -4,11 +4,10 @@ use Rattle.std.specs.Prelude.{bytes_eq}
 use Rattle.std.specs.List.{list_any}
 use Rattle.wsm_record.specs.declared.schema.DeclaredField.{DeclaredField as KeptField}
 use Rattle.wsm_record.specs.Name.{is_among}
-use Rattle.wsm_record.specs.Schema.{DeclaredField}
 use Rattle.wsm_program.specs.declared.refusal.DecodeRefusal.{DecodeRefusal}
 use Rattle.wsm_program.specs.declared.refusal.DecodeRefusal.TheVariants.{Memory, Operand}
 use Rattle.wsm_program.specs.Program.{Name}
-use Rattle.wsm_bytecode.specs.Steps.{Read, ◌>>=◌, several, name_at, field_type_at, new_name_at, names_after, new_field_at, fields_after}
+use Rattle.wsm_bytecode.specs.Steps.{Read, ◌>>=◌, in_turn, name_at, field_type_at, new_name_at, names_after, new_field_at}
 use Rattle.wsm_bytecode.specs.Reading.{Fails}
 
 -- what was read before, and what is still read
@@ -39,31 +38,17 @@ stops e one later front h =
 one_less : (count i : ℕ) → i < count → count - i ≡ suc (count - (i + 1))
 one_less count i lt = omega arith
 
--- ---- so many of one kind
+module _ {S A : Type 0} (keep : S → A → S) (one : S → List ℕ → Read A) (front : List A) (count i : ℕ) (s : S) (bytes : List ℕ) (total : Read (List A)) (lt : i < count) (so_far : with_front front (in_turn keep one s (count - i) bytes) ≡ total) where
+  pub goes_on : (n : A) (after : List ℕ) → one s bytes ≡ Ok (n, after) → with_front (front ++ n ∷ []) (in_turn keep one (keep s n) (count - (i + 1)) after) ≡ total
+  goes_on n after h =
+      sym (moves_on (one s bytes) (λ x. in_turn keep one (keep s x) (count - (i + 1))) front n after h) ∙ ap (λ k. with_front front (in_turn keep one s k bytes)) (sym (one_less count i lt)) ∙ so_far
 
-pub goes_on : {A : Type 0} (one : List ℕ → Read A) (front : List A) (count i : ℕ) (bytes : List ℕ) (n : A) (after : List ℕ) (total : Read (List A)) → i < count → one bytes ≡ Ok (n, after)
-    → with_front front (several one (count - i) bytes) ≡ total → with_front (front ++ n ∷ []) (several one (count - (i + 1)) after) ≡ total
-goes_on one front count i bytes n after total lt h so_far =
-    sym (moves_on (one bytes) (λ _. several one (count - (i + 1))) front n after h) ∙ (ap (λ k. with_front front (several one k bytes)) (sym (one_less count i lt)) ∙ so_far)
-
-pub ends : {A : Type 0} (e : DecodeRefusal) (one : List ℕ → Read A) (front : List A) (count i : ℕ) (bytes : List ℕ) (total : Read (List A)) → i < count → Fails e (one bytes)
-    → with_front front (several one (count - i) bytes) ≡ total → Fails e total
-ends {A} e one front count i bytes total lt h so_far =
-    let whole : with_front front (several one (suc (count - (i + 1))) bytes) ≡ total = ap (λ k. with_front front (several one k bytes)) (sym (one_less count i lt)) ∙ so_far in
-    subst (λ (r : Read (List A)). Fails e r) whole (stops e (one bytes) (λ _. several one (count - (i + 1))) front h)
+  pub ends : (e : DecodeRefusal) → Fails e (one s bytes) → Fails e total
+  ends e h =
+      let whole : with_front front (in_turn keep one s (suc (count - (i + 1))) bytes) ≡ total = ap (λ k. with_front front (in_turn keep one s k bytes)) (sym (one_less count i lt)) ∙ so_far in
+      subst (λ (r : Read (List A)). Fails e r) whole (stops e (one s bytes) (λ x. in_turn keep one (keep s x) (count - (i + 1))) front h)
 
 -- ---- names
-
-names_go_on : (front : List Name) (count i : ℕ) (bytes : List ℕ) (n : Name) (after : List ℕ) (total : Read (List Name)) → i < count → new_name_at front bytes ≡ Ok (n, after)
-    → with_front front (names_after front (count - i) bytes) ≡ total → with_front (front ++ n ∷ []) (names_after (front ++ n ∷ []) (count - (i + 1)) after) ≡ total
-names_go_on front count i bytes n after total lt h so_far =
-    sym (moves_on (new_name_at front bytes) (λ x. names_after (front ++ x ∷ []) (count - (i + 1))) front n after h) ∙ (ap (λ k. with_front front (names_after front k bytes)) (sym (one_less count i lt)) ∙ so_far)
-
-names_end : (e : DecodeRefusal) (front : List Name) (count i : ℕ) (bytes : List ℕ) (total : Read (List Name)) → i < count → Fails e (new_name_at front bytes)
-    → with_front front (names_after front (count - i) bytes) ≡ total → Fails e total
-names_end e front count i bytes total lt h so_far =
-    let whole : with_front front (names_after front (suc (count - (i + 1))) bytes) ≡ total = ap (λ k. with_front front (names_after front k bytes)) (sym (one_less count i lt)) ∙ so_far in
-    subst (λ (r : Read (List Name)). Fails e r) whole (stops e (new_name_at front bytes) (λ x. names_after (front ++ x ∷ []) (count - (i + 1))) front h)
 
 -- the next name, which is none of those before
 new_name_is : (before : List Name) (bytes : List ℕ) (n : Name) (rest : List ℕ) → name_at bytes ≡ Ok (n, rest) → is_among n before ≡ false → new_name_at before bytes ≡ Ok (n, rest)
@@ -73,17 +58,18 @@ new_name_is before bytes n rest e other = rw (e, other) refl
 new_name_taken : (before : List Name) (bytes : List ℕ) (n : Name) (rest : List ℕ) → name_at bytes ≡ Ok (n, rest) → is_among n before ≡ true → new_name_at before bytes ≡ Err Operand
 new_name_taken before bytes n rest e same = rw (e, same) refl
 
-pub name_goes_on : (front : List Name) (count i : ℕ) (bytes : List ℕ) (n : Name) (after : List ℕ) (total : Read (List Name)) → i < count → name_at bytes ≡ Ok (n, after) → is_among n front ≡ false
-    → with_front front (names_after front (count - i) bytes) ≡ total → with_front (front ++ n ∷ []) (names_after (front ++ n ∷ []) (count - (i + 1)) after) ≡ total
-name_goes_on front count i bytes n after total lt h other so_far = names_go_on front count i bytes n after total lt (new_name_is front bytes n after h other) so_far
+abbrev add : List Name → Name → List Name
+add names n = names ++ n ∷ []
 
-pub name_stops : (e : DecodeRefusal) (front : List Name) (count i : ℕ) (bytes : List ℕ) (total : Read (List Name)) → i < count → Fails e (name_at bytes)
-    → with_front front (names_after front (count - i) bytes) ≡ total → Fails e total
-name_stops e front count i bytes total lt h so_far = names_end e front count i bytes total lt (fails_so e (name_at bytes) _ h) so_far
+module _ (front : List Name) (count i : ℕ) (bytes : List ℕ) (total : Read (List Name)) (lt : i < count) (so_far : with_front front (names_after front (count - i) bytes) ≡ total) where
+  pub name_goes_on : (n : Name) (after : List ℕ) → name_at bytes ≡ Ok (n, after) → is_among n front ≡ false → with_front (front ++ n ∷ []) (names_after (front ++ n ∷ []) (count - (i + 1)) after) ≡ total
+  name_goes_on n after h other = goes_on add new_name_at front count i front bytes total lt so_far n after (new_name_is front bytes n after h other)
 
-pub name_repeats : (front : List Name) (count i : ℕ) (bytes : List ℕ) (n : Name) (after : List ℕ) (total : Read (List Name)) → i < count → name_at bytes ≡ Ok (n, after) → is_among n front ≡ true
-    → with_front front (names_after front (count - i) bytes) ≡ total → total ≡ Err Operand
-name_repeats front count i bytes n after total lt h same so_far = names_end Operand front count i bytes total lt (new_name_taken front bytes n after h same) so_far
+  pub name_stops : (e : DecodeRefusal) → Fails e (name_at bytes) → Fails e total
+  name_stops e h = ends add new_name_at front count i front bytes total lt so_far e (fails_so e (name_at bytes) _ h)
+
+  pub name_repeats : (n : Name) (after : List ℕ) → name_at bytes ≡ Ok (n, after) → is_among n front ≡ true → total ≡ Err Operand
+  name_repeats n after h same = ends add new_name_at front count i front bytes total lt so_far Operand (new_name_taken front bytes n after h same)
 
 -- all were read
 pub names_done : (front : List Name) (count i : ℕ) (bytes : List ℕ) (total : Read (List Name)) → count ≤ i → with_front front (names_after front (count - i) bytes) ≡ total → total ≡ Ok (front, bytes)
@@ -92,17 +78,6 @@ names_done front count i bytes total le so_far =
     sym so_far ∙ ap (λ k. with_front front (names_after front k bytes)) none ∙ ap (λ (ns : List Name). Ok (ns, bytes)) (append-nil front)
 
 -- ---- fields
-
-pub fields_go_on : (front : List DeclaredField) (names : List Name) (count i : ℕ) (bytes : List ℕ) (f : DeclaredField) (after : List ℕ) (total : Read (List DeclaredField)) → i < count → new_field_at names bytes ≡ Ok (f, after)
-    → with_front front (fields_after names (count - i) bytes) ≡ total → with_front (front ++ f ∷ []) (fields_after (names ++ f.name ∷ []) (count - (i + 1)) after) ≡ total
-fields_go_on front names count i bytes f after total lt h so_far =
-    sym (moves_on (new_field_at names bytes) (λ x. fields_after (names ++ x.name ∷ []) (count - (i + 1))) front f after h) ∙ (ap (λ k. with_front front (fields_after names k bytes)) (sym (one_less count i lt)) ∙ so_far)
-
-pub fields_end : (e : DecodeRefusal) (front : List DeclaredField) (names : List Name) (count i : ℕ) (bytes : List ℕ) (total : Read (List DeclaredField)) → i < count → Fails e (new_field_at names bytes)
-    → with_front front (fields_after names (count - i) bytes) ≡ total → Fails e total
-fields_end e front names count i bytes total lt h so_far =
-    let whole : with_front front (fields_after names (suc (count - (i + 1))) bytes) ≡ total = ap (λ k. with_front front (fields_after names k bytes)) (sym (one_less count i lt)) ∙ so_far in
-    subst (λ (r : Read (List DeclaredField)). Fails e r) whole (stops e (new_field_at names bytes) (λ x. fields_after (names ++ x.name ∷ []) (count - (i + 1))) front h)
 
 among_names : (n : Name) (fs : List KeptField) → is_among n (map (λ f. f.name) fs) ≡ list_any (λ f. bytes_eq n f.name) fs
 among_names n [] = refl

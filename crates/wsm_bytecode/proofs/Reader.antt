@@ -4,13 +4,12 @@ use Rattle.wsm_program.specs.declared.refusal.DecodeRefusal.{DecodeRefusal}
 use Rattle.wsm_program.specs.Program.{Program, is_program}
 use Rattle.wsm_bytecode.specs.Spelling.{IsSpelling}
 use Rattle.wsm_bytecode.specs.Reading.{Gives, decode}
-use Rattle.wsm_bytecode.proofs.Taken.{IsBytes, ok_is}
-use Rattle.wsm_bytecode.proofs.TakenProgram.{decode_is}
-use Rattle.wsm_bytecode.proofs.Codec.{decode_again}
+use Rattle.wsm_bytecode.proofs.Coded.{IsBytes, ok_is}
+use Rattle.wsm_bytecode.proofs.CodedProgram.{decode_is, decode_again}
 
 -- the bytes are a spelling of the program
 pub spelled_so : (bytes : List ℕ) (r : Result Program DecodeRefusal) → IsBytes bytes → Gives (λ p. p) r (decode bytes) → IfOk r (λ p. IsSpelling p bytes)
-spelled_so bytes (Ok p) fits h = (decode_is bytes p fits h).spelled
+spelled_so bytes (Ok p) fits h = decode_is bytes p fits h
 spelled_so bytes (Err e) fits h = tt
 
 -- a spelling of a program is read as that program

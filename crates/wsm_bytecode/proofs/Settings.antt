@@ -1,13 +1,12 @@
 -- What a schema and the settings of a lawful header hold, part by part.
-use Rattle.std.proofs.Common.{leb, ◌≡◌, ◌<◌, ◌≤◌, true, ◌&&◌, ℕ, zero, suc, List, [], ◌++◌, length, Ok, Bool, false, refl, arith}
+use Rattle.std.proofs.Common.{leb, ◌≡◌, ◌<◌, ◌≤◌, true, ◌&&◌, ℕ, zero, suc, [], length, false, refl, arith}
 use Rattle.std.specs.Prelude.{nat_eq}
-use Rattle.std.proofs.lemmas.Bool.{leb-true, and_parts, and_from}
+use Rattle.std.proofs.lemmas.Bool.{leb-true, and_parts}
 use Rattle.wsm_record.specs.Modes.{may_write}
 use Rattle.wsm_record.specs.Name.{is_between}
 use Rattle.wsm_record.specs.Schema.{Declared, is_name_list, are_fields_after, is_source_count, are_sources, is_schema}
 use Rattle.wsm_program.specs.Program.{is_span, is_shape, is_timely}
 use Rattle.wsm_bytecode.specs.Parts.{Settings}
-use Rattle.wsm_bytecode.specs.Steps.{Read}
 
 pub record SchemaParts (s : Declared) : Type 0 where
   pub keys : is_name_list s.keys ≡ true
@@ -23,13 +22,6 @@ schema_parts s h =
     let c = and_parts (are_fields_after [] s.fields) (are_sources s.sources) b.1 in
     record { keys = a.0; few = b.0; fields = c.0; sources = c.1 }
 
-abbrev pub are_settings : Settings → Bool
-are_settings s = is_timely s.from_window s.shape && (are_sources s.sources && (is_shape s.shape && (is_span s.early && (is_span s.late && may_write s.mode s.form))))
-
--- settings that were spelled are read again
-abbrev pub AreReadAgain : (Settings → List ℕ) → (List ℕ → Read Settings) → Type 0
-AreReadAgain spelled read = (s : Settings) (rest : List ℕ) → are_settings s ≡ true → read (spelled s ++ rest) ≡ Ok (s, rest)
-
 pub record SettingsParts (s : Settings) : Type 0 where
   pub timely : is_timely s.from_window s.shape ≡ true
   pub sources : are_sources s.sources ≡ true
@@ -37,18 +29,6 @@ pub record SettingsParts (s : Settings) : Type 0 where
   pub early : is_span s.early ≡ true
   pub late : is_span s.late ≡ true
   pub form : may_write s.mode s.form ≡ true
-
-pub settings_parts : (s : Settings) → are_settings s ≡ true → SettingsParts s
-settings_parts s h =
-    let a = and_parts (is_timely s.from_window s.shape) (are_sources s.sources && (is_shape s.shape && (is_span s.early && (is_span s.late && may_write s.mode s.form)))) h in
-    let b = and_parts (are_sources s.sources) (is_shape s.shape && (is_span s.early && (is_span s.late && may_write s.mode s.form))) a.1 in
-    let c = and_parts (is_shape s.shape) (is_span s.early && (is_span s.late && may_write s.mode s.form)) b.1 in
-    let d = and_parts (is_span s.early) (is_span s.late && may_write s.mode s.form) c.1 in
-    let e = and_parts (is_span s.late) (may_write s.mode s.form) d.1 in
-    record { timely = a.0; sources = b.0; shape = c.0; early = d.0; late = e.0; form = e.1 }
-
-pub are_settings_from : (s : Settings) → SettingsParts s → are_settings s ≡ true
-are_settings_from s p = and_from _ _ p.timely (and_from _ _ p.sources (and_from _ _ p.shape (and_from _ _ p.early (and_from _ _ p.late p.form))))
 
 -- a number of sources that there are is between 2 and 16
 not_none : (n : ℕ) → nat_eq (suc n) 0 ≡ false

@@ -16,10 +16,12 @@ use Rattle.wsm_admission.specs.declared.clock.Clock.{Clock}
 use Rattle.wsm_bytecode.proofs.Settings.{schema_parts, few_sources}
 use Rattle.wsm_bytecode.specs.declared.version.Version.TheVariants.{Two}
 use Rattle.wsm_bytecode.specs.Parts.{settings_in, byte, signed, name, names, fields, sources, times, mode, kinds, columns, budget}
-use Rattle.wsm_bytecode.specs.Version2.{window_flag, shape, form, settings}
+use Rattle.wsm_bytecode.specs.Version2.{shape, form, settings}
+use Rattle.wsm_program.specs.Instructions.{truth}
 use Rattle.wsm_bytecode.specs.Spelling.{header}
 use Rattle.std.proofs.lemmas.Int.{to_z-of_z}
-use Rattle.wsm_bytecode.proofs.Numbers.{name_is_short, fits}
+use Rattle.wsm_bytecode.proofs.CodedParts.{name_is_short}
+use Rattle.wsm_bytecode.proofs.Coded.{fits}
 use Rattle.wsm_program.proofs.Within.{is_i64_within}
 use Rattle.wsm_program.proofs.Lawful.{few_fields, header_parts}
 
@@ -106,18 +108,18 @@ added : (o0 o1 o2 x y : List ℕ) → o1 ≡ o0 ++ x → o2 ≡ o1 ++ y → o2 �
 added o0 o1 o2 x y e f = f ∙ ap (λ o. o ++ y) e ∙ append_assoc o0 x y
 
 pub settings_added : (h : Header) → is_header h ≡ true → (o0 o1 o2 o3 o4 o5 o6 : List ℕ)
-    → o1 ≡ o0 ++ byte (window_flag h.clock.from_window) → o2 ≡ o1 ++ sources h.schema.sources → o3 ≡ o2 ++ shape h.shape → o4 ≡ o3 ++ mode h.mode → o5 ≡ o4 ++ (signed (passed h.early) ++ signed (passed h.late)) → o6 ≡ o5 ++ form h.form
+    → o1 ≡ o0 ++ byte (truth h.clock.from_window) → o2 ≡ o1 ++ sources h.schema.sources → o3 ≡ o2 ++ shape h.shape → o4 ≡ o3 ++ mode h.mode → o5 ≡ o4 ++ (signed (passed h.early) ++ signed (passed h.late)) → o6 ≡ o5 ++ form h.form
     → o6 ≡ o0 ++ settings (settings_in h)
 settings_added h good o0 o1 o2 o3 o4 o5 o6 e0 e1 e2 e3 e4 e5 =
     let parts = header_parts h good in
     let early : passed h.early ≡ h.early = passed_same h.early (is_i64_within (pos 0) LONGEST_SPAN h.early refl refl parts.early) in
     let late : passed h.late ≡ h.late = passed_same h.late (is_i64_within (pos 0) LONGEST_SPAN h.late refl refl parts.late) in
     let q4 : o5 ≡ (o4 ++ signed h.early) ++ signed h.late = e4 ∙ ap (λ n. o4 ++ (signed n ++ signed (passed h.late))) early ∙ ap (λ n. o4 ++ (signed h.early ++ signed n)) late ∙ sym (append_assoc o4 (signed h.early) (signed h.late)) in
-    let s1 : o2 ≡ o0 ++ (byte (window_flag h.clock.from_window) ++ sources h.schema.sources) = added o0 o1 o2 _ _ e0 e1 in
-    let s2 : o3 ≡ o0 ++ (byte (window_flag h.clock.from_window) ++ sources h.schema.sources ++ shape h.shape) = added o0 o2 o3 _ _ s1 e2 in
-    let s3 : o4 ≡ o0 ++ (byte (window_flag h.clock.from_window) ++ sources h.schema.sources ++ shape h.shape ++ mode h.mode) = added o0 o3 o4 _ _ s2 e3 in
-    let s4 : o4 ++ signed h.early ≡ o0 ++ (byte (window_flag h.clock.from_window) ++ sources h.schema.sources ++ shape h.shape ++ mode h.mode ++ signed h.early) = added o0 o4 (o4 ++ signed h.early) _ _ s3 refl in
-    let s5 : o5 ≡ o0 ++ (byte (window_flag h.clock.from_window) ++ sources h.schema.sources ++ shape h.shape ++ mode h.mode ++ signed h.early ++ signed h.late) = added o0 (o4 ++ signed h.early) o5 _ _ s4 q4 in
+    let s1 : o2 ≡ o0 ++ (byte (truth h.clock.from_window) ++ sources h.schema.sources) = added o0 o1 o2 _ _ e0 e1 in
+    let s2 : o3 ≡ o0 ++ (byte (truth h.clock.from_window) ++ sources h.schema.sources ++ shape h.shape) = added o0 o2 o3 _ _ s1 e2 in
+    let s3 : o4 ≡ o0 ++ (byte (truth h.clock.from_window) ++ sources h.schema.sources ++ shape h.shape ++ mode h.mode) = added o0 o3 o4 _ _ s2 e3 in
+    let s4 : o4 ++ signed h.early ≡ o0 ++ (byte (truth h.clock.from_window) ++ sources h.schema.sources ++ shape h.shape ++ mode h.mode ++ signed h.early) = added o0 o4 (o4 ++ signed h.early) _ _ s3 refl in
+    let s5 : o5 ≡ o0 ++ (byte (truth h.clock.from_window) ++ sources h.schema.sources ++ shape h.shape ++ mode h.mode ++ signed h.early ++ signed h.late) = added o0 (o4 ++ signed h.early) o5 _ _ s4 q4 in
     added o0 o5 o6 _ _ s5 e5
 
 pub header_added : (h : Header) (o0 o1 o2 o3 o4 o5 o6 o7 : List ℕ)

@@ -1,5 +1,5 @@
 -- Reading the bytes of a program from the left, up to the first fault, in the version that they name.
-use Rattle.std.specs.Prelude.{◌≡◌, ℕ, List, [], ◌∷◌, length, nat_lt, ok_or, Result, Ok, Err, slice_get, bytes_eq, ◌==◌, if◌then◌else◌}
+use Rattle.std.specs.Prelude.{◌≡◌, ℕ, List, [], ◌∷◌, length, nat_lt, ok_or, Result, Ok, Err, slice_get, bytes_eq, if◌then◌else◌}
 use Rattle.std.specs.Int.{w8, w16}
 use Rattle.wsm_interval.specs.declared.Comparison.{Comparison}
 use Rattle.wsm_record.specs.declared.Kind.{Kind}
@@ -15,7 +15,7 @@ use Rattle.wsm_program.specs.declared.instr.Opcode.{Opcode}
 use Rattle.wsm_program.specs.declared.instr.Opcode.TheVariants as opcodes
 use Rattle.wsm_program.specs.declared.program.Costs.{Costs}
 use Rattle.wsm_program.specs.declared.refusal.DecodeRefusal.{DecodeRefusal}
-use Rattle.wsm_program.specs.declared.refusal.DecodeRefusal.TheVariants.{BadMagic, Version as OtherVersion, UnknownOpcode, Operand, TrailingBytes, Memory}
+use Rattle.wsm_program.specs.declared.refusal.DecodeRefusal.TheVariants.{BadMagic, Version as OtherVersion, UnknownOpcode, TrailingBytes, Memory}
 use Rattle.wsm_program.specs.Opcodes.{of_code}
 use Rattle.wsm_program.specs.Comparisons.{comparison_of_number}
 use Rattle.wsm_program.specs.Program.{Header, Program, is_name_of, is_number_field}
@@ -26,7 +26,7 @@ use Rattle.wsm_bytecode.specs.declared.reading.header.Back.{Back}
 use Rattle.wsm_bytecode.specs.declared.reading.settings.Settings.{Settings as Held}
 use Rattle.wsm_bytecode.specs.declared.reading.settings.Times.{Times}
 use Rattle.wsm_bytecode.specs.Parts.{Settings, magic}
-use Rattle.wsm_bytecode.specs.Steps.{Read, ◌>>=◌, bytes_at, number_at, signed_at, judged, tagged, several, names_at, fields_at, times_at, kinds_at, enum_number_at, columns_at, budget_at}
+use Rattle.wsm_bytecode.specs.Steps.{Read, ◌>>=◌, bytes_at, number_at, signed_at, truth_at, judged, tagged, several, names_at, fields_at, times_at, kinds_at, enum_number_at, columns_at, budget_at}
 use Rattle.wsm_bytecode.specs.Versions.{version_of_number}
 use Rattle.wsm_bytecode.specs.Version1 as first
 use Rattle.wsm_bytecode.specs.Version2 as second
@@ -100,8 +100,8 @@ push_int_at bytes = do
 
 unfoldable pub push_bool_at : List ℕ → Read Instr
 push_bool_at bytes = do
-  b ← judged (is_between 0 1) (number_at w8 bytes)
-  Ok (PushBool (b.0 == 1), b.1)
+  b ← truth_at bytes
+  Ok (PushBool b.0, b.1)
 
 -- the ENUM is judged at its own byte
 unfoldable pub push_enum_at : Declared → List ℕ → Read Instr

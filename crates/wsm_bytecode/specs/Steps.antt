@@ -1,5 +1,5 @@
 -- Reading the parts of a program that are the same in each version, from the left, up to the first fault.
-use Rattle.std.specs.Prelude.{ℕ, zero, suc, Bool, not, List, [], ◌∷◌, ◌++◌, length, take, drop, ℤ, pos, int_le, nat_lt, is_some, Option, ok_or, Result, Ok, Err, if◌then◌else◌}
+use Rattle.std.specs.Prelude.{◌==◌, ℕ, zero, suc, Bool, not, List, [], ◌∷◌, ◌++◌, length, take, drop, ℤ, pos, int_le, nat_lt, is_some, Option, ok_or, Result, Ok, Err, if◌then◌else◌}
 use Rattle.std.specs.Int.{Width, w8, w16, w64, byte_len, from_le_bytes, cast_signed}
 use Rattle.wsm_record.specs.declared.words.CellType.{CellType}
 use Rattle.wsm_record.specs.declared.words.CellType.TheVariants as types
@@ -49,6 +49,12 @@ judged good read = do
   x ← read
   if good x.0 then Ok x else Err Operand
 
+-- 0 or 1
+unfoldable pub truth_at : List ℕ → Read Bool
+truth_at bytes = do
+  n ← judged (is_between 0 1) (number_at w8 bytes)
+  Ok (n.0 == 1, n.1)
+
 -- the one that a byte stands for
 abbrev pub tagged : {A : Type 0} → (ℕ → Option A) → List ℕ → Read A
 tagged by bytes = do
@@ -56,13 +62,16 @@ tagged by bytes = do
   x ← ok_or (by tag.0) Operand
   Ok (x, tag.1)
 
--- so many, one after the other
-abbrev pub several : {A : Type 0} → (List ℕ → Read A) → ℕ → List ℕ → Read (List A)
-several one zero bytes = Ok ([], bytes)
-several one (suc n) bytes = do
-  first ← one bytes
-  others ← several one n first.1
+-- so many, one after the other, each by what was kept of those before
+abbrev pub in_turn : {S A : Type 0} → (S → A → S) → (S → List ℕ → Read A) → S → ℕ → List ℕ → Read (List A)
+in_turn keep one kept zero bytes = Ok ([], bytes)
+in_turn keep one kept (suc n) bytes = do
+  first ← one kept bytes
+  others ← in_turn keep one (keep kept first.0) n first.1
   Ok (first.0 ∷ others.0, others.1)
+
+abbrev pub several : {A : Type 0} → (List ℕ → Read A) → ℕ → List ℕ → Read (List A)
+several one n bytes = in_turn {S = Unit {0}} (λ kept x. kept) (λ kept. one) tt n bytes
 
 -- the length is judged at its own byte
 unfoldable pub name_at : List ℕ → Read Name
@@ -76,11 +85,7 @@ new_name_at before bytes = judged (λ x. not (is_among x before)) (name_at bytes
 
 -- so many names, none of them one of those before
 abbrev pub names_after : List Name → ℕ → List ℕ → Read (List Name)
-names_after before zero bytes = Ok ([], bytes)
-names_after before (suc n) bytes = do
-  first ← new_name_at before bytes
-  others ← names_after (before ++ first.0 ∷ []) n first.1
-  Ok (first.0 ∷ others.0, others.1)
+names_after before n bytes = in_turn (λ names x. names ++ x ∷ []) new_name_at before n bytes
 
 unfoldable pub names_at : List ℕ → Read (List Name)
 names_at bytes = do
@@ -120,11 +125,7 @@ new_field_at before bytes = do
   Ok (record { name = name.0; type = type.0 }, type.1)
 
 abbrev pub fields_after : List Name → ℕ → List ℕ → Read (List DeclaredField)
-fields_after before zero bytes = Ok ([], bytes)
-fields_after before (suc n) bytes = do
-  first ← new_field_at before bytes
-  others ← fields_after (before ++ first.0.name ∷ []) n first.1
-  Ok (first.0 ∷ others.0, others.1)
+fields_after before n bytes = in_turn (λ names f. names ++ f.name ∷ []) new_field_at before n bytes
 
 unfoldable pub fields_at : List ℕ → Read (List DeclaredField)
 fields_at bytes = do

@@ -1,6 +1,6 @@
 -- What version 2 of the bytes has of its own: what lateness is counted from and the sources stand in front of the
 -- shape, and each instruction is there.
-use Rattle.std.specs.Prelude.{ℕ, ℤ, Bool, true, false, List, ◌++◌, Ok, ◌==◌}
+use Rattle.std.specs.Prelude.{ℕ, ℤ, Bool, true, List, ◌++◌, Ok}
 use Rattle.std.specs.Int.{w8}
 use Rattle.wsm_record.specs.declared.Mode.{Mode}
 use Rattle.wsm_record.specs.declared.Form.{Form}
@@ -8,16 +8,12 @@ use Rattle.wsm_record.specs.Name.{is_between}
 use Rattle.wsm_record.specs.Schema.{is_source_count}
 use Rattle.wsm_windows.specs.declared.Shape.{Shape}
 use Rattle.wsm_program.specs.declared.instr.Instr.{Instr}
+use Rattle.wsm_program.specs.Instructions.{truth}
 use Rattle.wsm_bytecode.specs.Tags.{form_tag, shape_tag, last_shape_tag}
 use Rattle.wsm_bytecode.specs.Parts.{Settings, byte, signed, mode, measures, sources}
-use Rattle.wsm_bytecode.specs.Steps.{Read, ◌>>=◌, judged, number_at, windows_by, mode_at, triggers_at, form_of, sources_at}
+use Rattle.wsm_bytecode.specs.Steps.{Read, ◌>>=◌, judged, number_at, truth_at, windows_by, mode_at, triggers_at, form_of, sources_at}
 
 -- ---- how it is spelled
-
--- counted from a window's end
-abbrev pub window_flag : Bool → ℕ
-window_flag false = 0
-window_flag true = 1
 
 abbrev pub shape : Shape → List ℕ
 shape s = byte (shape_tag s) ++ measures s
@@ -26,7 +22,7 @@ abbrev pub form : Form → List ℕ
 form f = byte (form_tag f)
 
 abbrev pub settings : Settings → List ℕ
-settings s = byte (window_flag s.from_window) ++ sources s.sources ++ shape s.shape ++ mode s.mode ++ signed s.early ++ signed s.late ++ form s.form
+settings s = byte (truth s.from_window) ++ sources s.sources ++ shape s.shape ++ mode s.mode ++ signed s.early ++ signed s.late ++ form s.form
 
 abbrev pub has : Instr → Bool
 has i = true
@@ -56,9 +52,9 @@ shown_at bytes = do
 
 unfoldable pub settings_at : List ℕ → Read Settings
 settings_at bytes = do
-  flag ← judged (is_between 0 1) (number_at w8 bytes)
-  names ← sources_at is_source_count flag.1
-  windows ← windows_at (flag.0 == 1) names.1
+  from_window ← truth_at bytes
+  names ← sources_at is_source_count from_window.1
+  windows ← windows_at from_window.0 names.1
   mode ← mode_at windows.1
   triggers ← triggers_at mode.1
   form ← form_at mode.0 triggers.1

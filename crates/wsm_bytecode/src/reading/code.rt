@@ -9,7 +9,7 @@ ghost use Rattle.wsm_program.specs.declared.instr.Instr.TheVariants.{Field, Acc,
 
 use crate::limits::MAX_SECTION;
 use crate::reading::header::enum_of;
-use crate::reading::numbers::{byte_of, byte_within, i64_of, u16_of, u16_within};
+use crate::reading::numbers::{byte_of, i64_of, truth_of, u16_of, u16_within};
 use crate::version::Version;
 use std::alloc::Global;
 use wsm_program::named::{has_name, is_number_field};
@@ -106,8 +106,8 @@ fn push_int_of(bytes: &[u8]) -> Result<(Instr, &[u8]), DecodeRefusal>
 fn push_bool_of(bytes: &[u8]) -> Result<(Instr, &[u8]), DecodeRefusal>
     ensures { Gives (λ x. (x.0, x.1.now)) result (push_bool_at bytes.now) }
 {
-    let (truth, rest) = byte_within(bytes, 0, 1)?;
-    Ok((Instr::PushBool(truth == 1), rest))
+    let (truth, rest) = truth_of(bytes)?;
+    Ok((Instr::PushBool(truth), rest))
 }
 
 // The ENUM is judged at its own byte, its name's number behind it.

@@ -6,7 +6,7 @@ ghost use Rattle.std.specs.Prelude.{◌≡◌, ◌≤◌, IfOk};
 ghost use Rattle.std.specs.Int.{w8, w16, w64};
 ghost use Rattle.wsm_record.specs.Name.{is_between};
 ghost use Rattle.wsm_record.specs.Schema.{is_within};
-ghost use Rattle.wsm_bytecode.specs.Steps.{number_at, signed_at, judged};
+ghost use Rattle.wsm_bytecode.specs.Steps.{number_at, signed_at, truth_at, judged};
 ghost use Rattle.wsm_bytecode.specs.Reading.{Gives};
 
 use wsm_program::DecodeRefusal;
@@ -55,6 +55,15 @@ pub(crate) fn byte_within(bytes: &[u8], low: u8, high: u8) -> Result<(u8, &[u8])
         return Err(DecodeRefusal::Operand);
     }
     Ok((number, rest))
+}
+
+/// A truth, which is 0 or 1.
+#[tactic(auto, unfolding(crate::specs::Steps::truth_at))]
+pub(crate) fn truth_of(bytes: &[u8]) -> Result<(bool, &[u8]), DecodeRefusal>
+    ensures { Gives (λ x. (x.0, x.1.now)) result (truth_at bytes.now) }
+{
+    let (number, rest) = byte_within(bytes, 0, 1)?;
+    Ok((number == 1, rest))
 }
 
 pub(crate) fn u16_within(bytes: &[u8], low: u16, high: u16) -> Result<(u16, &[u8]), DecodeRefusal>

@@ -8,7 +8,7 @@ ghost use Rattle.wsm_bytecode.specs.Version2.{windows_at, form_at, shown_at, set
 ghost use Rattle.wsm_bytecode.specs.Reading.{Gives, settings_seen};
 
 use crate::reading::names::so_many_names;
-use crate::reading::numbers::{byte_of, byte_within};
+use crate::reading::numbers::{byte_of, byte_within, truth_of};
 use crate::reading::settings::{
     Settings, form_of as form_of_tag, mode_of, triggers_of, windows_of as windows_of_tag,
 };
@@ -31,9 +31,9 @@ struct Shown {
 pub(crate) fn settings_of(alloc: Global, bytes: &[u8]) -> Result<(Settings, &[u8]), DecodeRefusal>
     ensures { Gives (λ x. (settings_seen x.0, x.1.now)) result (settings_at bytes.now) }
 {
-    let (flag, rest) = byte_within(bytes, 0, 1)?;
+    let (from_window, rest) = truth_of(bytes)?;
     let (sources, rest) = sources_of(alloc, rest)?;
-    let ((shape, from_window), rest) = windows_of(rest, flag == 1)?;
+    let ((shape, from_window), rest) = windows_of(rest, from_window)?;
     let (shown, rest) = shown_of(rest)?;
     let settings = Settings {
         shape,

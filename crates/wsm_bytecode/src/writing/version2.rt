@@ -2,10 +2,11 @@
 //! of the shape.
 
 ghost use Rattle.std.specs.Prelude.{◌≡◌, ◌++◌, OnOk, IsTrue};
+ghost use Rattle.wsm_program.specs.Instructions.{truth};
 ghost use Rattle.wsm_program.specs.Program.{is_header};
 ghost use Rattle.wsm_program.specs.View.{header_of};
 ghost use Rattle.wsm_bytecode.specs.Parts.{byte, settings_in};
-ghost use Rattle.wsm_bytecode.specs.Version2.{window_flag, shape as shape_bytes, settings as settings_bytes};
+ghost use Rattle.wsm_bytecode.specs.Version2.{shape as shape_bytes, settings as settings_bytes};
 
 use crate::tags::{form_tag, mode_tag, shape_tag};
 use crate::writing::numbers::{put_i64, put_two, put_u8};
@@ -27,7 +28,7 @@ pub(crate) fn put_settings(out: &mut Vec<u8>, header: &Header) -> Result<(), All
 }
 
 fn put_window_flag(out: &mut Vec<u8>, from_window: bool) -> Result<(), AllocError>
-    ensures { OnOk result (out.new.items ≡ out.old.items ++ byte (window_flag from_window)) }
+    ensures { OnOk result (out.new.items ≡ out.old.items ++ byte (truth from_window)) }
 {
     put_u8(out, if from_window { 1 } else { 0 })
 }

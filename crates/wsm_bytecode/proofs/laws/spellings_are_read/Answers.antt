@@ -1,5 +1,5 @@
 use Rattle.wsm_bytecode.specs.declared.version.Version.TheVariants.{One}
-use Rattle.wsm_bytecode.proofs.Codec.{decode_again, decode_written}
+use Rattle.wsm_bytecode.proofs.CodedProgram.{decode_again, decode_written}
 use Rattle.wsm_bytecode.proofs.laws.spellings_are_read.Goals as goal
 
 pub returns-clause-written : goal.returns-clause-written

@@ -5,7 +5,7 @@ use Rattle.std.proofs.lemmas.Int.{to_z-of_z}
 use Rattle.wsm_record.specs.Fields.{field_seen}
 use Rattle.wsm_bytecode.specs.Reading.{settings_seen}
 use Rattle.wsm_bytecode.proofs.InThree.{header_in_parts}
-use Rattle.wsm_bytecode.proofs.TakenProgram.{schema_taken}
+use Rattle.wsm_bytecode.proofs.CodedProgram.{schema_taken}
 use Rattle.wsm_bytecode.proofs.reading.header.header_of.Goals as goal
 
 -- all were judged as they were read

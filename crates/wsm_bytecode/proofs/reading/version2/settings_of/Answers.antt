@@ -9,4 +9,4 @@ pub returns : goal.returns
 returns c =
     let early : FitsSigned w64 c.in_ok-shown.shown.early = search rules in
     let late : FitsSigned w64 c.in_ok-shown.shown.late = search rules in
-    simp to_z-of_z (settings_in_parts c.args.bytes.now ∙ rw (c.in_ok-flag.ensures.read, c.in_ok-sources.ensures, c.in_ok-shape.ensures, c.in_ok-shown.ensures) refl)
+    simp to_z-of_z (settings_in_parts c.args.bytes.now ∙ rw (c.in_ok-from_window.ensures, c.in_ok-sources.ensures, c.in_ok-shape.ensures, c.in_ok-shown.ensures) refl)
