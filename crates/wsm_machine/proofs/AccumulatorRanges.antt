@@ -126,26 +126,13 @@ one_value Min o (values.Int z) e = one_number Holds (λ x z h. h) o z e
 one_value Max o (values.Int z) e = one_number Holds (λ x z h. h) o z e
 one_value Any o (values.Bool b) e = tt
 one_value All o (values.Bool b) e = tt
-one_value Sum o (values.Bool b) e = no e
-one_value Sum o (values.Enum i) e = no e
-one_value Min o (values.Bool b) e = no e
-one_value Min o (values.Enum i) e = no e
-one_value Max o (values.Bool b) e = no e
-one_value Max o (values.Enum i) e = no e
-one_value Any o (values.Int z) e = no e
-one_value Any o (values.Enum i) e = no e
-one_value All o (values.Int z) e = no e
-one_value All o (values.Enum i) e = no e
+one_value k o v e = no e
 
 -- of one value more
 more_numbers : (k : Kind) (op : ℤ → ℤ → ℤ) → ((x y : ℤ) → join k (values.Int x) (values.Int y) ≡ values.Int (op x y)) → (f g h : Interval → ℤ → Type 0)
     → ((x : Interval) (y z : ℤ) → f x y → g x z → h x (op y z)) → (o : Option Interval) (u w : Value) → NumberIn f o u → NumberIn g o w → NumberIn h o (join k u w)
-more_numbers k op same f g h holds None u w a b = absurd a
 more_numbers k op same f g h holds (Some x) (values.Int y) (values.Int z) a b = subst (NumberIn h (Some x)) (sym (same y z)) (holds x y z a b)
-more_numbers k op same f g h holds (Some x) (values.Int y) (values.Bool t) a b = absurd b
-more_numbers k op same f g h holds (Some x) (values.Int y) (values.Enum i) a b = absurd b
-more_numbers k op same f g h holds (Some x) (values.Bool t) w a b = absurd a
-more_numbers k op same f g h holds (Some x) (values.Enum i) w a b = absurd a
+more_numbers k op same f g h holds o u w a b = absurd assumption
 
 added : (n : ℕ) (x : Interval) (y z : ℤ) → Multiplied 1 x y → Multiplied n x z → Multiplied (suc n) x (y +ℤ z)
 added n x y z a b = (omega (arith, ints, once x.lo, once_more n x.lo, a.0, b.0), omega (arith, ints, once x.hi, once_more n x.hi, a.1, b.1))
@@ -164,27 +151,15 @@ more_values Any o n u w a b = tt
 more_values All o n u w a b = tt
 
 in_accumulated : (m n : ℕ) (k : Kind) (o : Option Interval) (v : Value) → 1 ≤ n → n ≤ m → ValueIn k o n v → is_value_in (and_then (accumulated (pos m) k) o) k v ≡ true
-in_accumulated m n Sum None v f l h = absurd h
 in_accumulated m n Sum (Some x) (values.Int z) f l h =
     holds_true (interval (int_min x.lo (pos m *ℤ x.lo)) (int_max x.hi (pos m *ℤ x.hi))) z (through (least_multiple m n x.lo f l) h.0, through h.1 (greatest_multiple m n x.hi f l))
-in_accumulated m n Sum (Some x) (values.Bool b) f l h = absurd h
-in_accumulated m n Sum (Some x) (values.Enum i) f l h = absurd h
-in_accumulated m n Min None v f l h = absurd h
 in_accumulated m n Min (Some x) (values.Int z) f l h = holds_true x z h
-in_accumulated m n Min (Some x) (values.Bool b) f l h = absurd h
-in_accumulated m n Min (Some x) (values.Enum i) f l h = absurd h
-in_accumulated m n Max None v f l h = absurd h
 in_accumulated m n Max (Some x) (values.Int z) f l h = holds_true x z h
-in_accumulated m n Max (Some x) (values.Bool b) f l h = absurd h
-in_accumulated m n Max (Some x) (values.Enum i) f l h = absurd h
 in_accumulated m n Any None (values.Bool b) f l h = refl
 in_accumulated m n Any (Some x) (values.Bool b) f l h = refl
-in_accumulated m n Any o (values.Int z) f l h = absurd h
-in_accumulated m n Any o (values.Enum i) f l h = absurd h
 in_accumulated m n All None (values.Bool b) f l h = refl
 in_accumulated m n All (Some x) (values.Bool b) f l h = refl
-in_accumulated m n All o (values.Int z) f l h = absurd h
-in_accumulated m n All o (values.Enum i) f l h = absurd h
+in_accumulated m n k o v f l h = absurd h
 
 -- ---- rows
 
@@ -195,17 +170,15 @@ ValuesIn o a n _ _ = ⊥
 
 one_row : (o : ℕ → Option Interval) (a : ℕ) (ks : List Kind) (vs : List Value) → are_values_in o a ks vs ≡ true → ValuesIn o a 1 ks vs
 one_row o a [] [] e = tt
-one_row o a [] (v ∷ vs) e = no e
-one_row o a (k ∷ ks) [] e = no e
 one_row o a (k ∷ ks) (v ∷ vs) e =
     let b = and_parts (is_value_in (o a) k v) (are_values_in o (suc a) ks vs) e in
     (one_value k (o a) v b.0, one_row o (suc a) ks vs b.1)
+one_row o a ks vs e = no e
 
 more_rows : (o : ℕ → Option Interval) (a n : ℕ) (ks : List Kind) (us ws : List Value) → ValuesIn o a 1 ks us → ValuesIn o a n ks ws → ValuesIn o a (suc n) ks (joins ks us ws)
 more_rows o a n [] us ws h g = tt
-more_rows o a n (k ∷ ks) [] ws h g = absurd h
-more_rows o a n (k ∷ ks) (u ∷ us) [] h g = absurd g
 more_rows o a n (k ∷ ks) (u ∷ us) (w ∷ ws) h g = (more_values k (o a) n u w h.0 g.0, more_rows o (suc a) n ks us ws h.1 g.1)
+more_rows o a n ks us ws h g = absurd assumption
 
 pub rows_in : (o : ℕ → Option Interval) (ks : List Kind) (row : List Value) (rows : List (List Value)) → list_all (are_values_in o 0 ks) (row ∷ rows) ≡ true
     → ValuesIn o 0 (length (row ∷ rows)) ks (joined_to (joins ks) row (folds_of ks rows))
@@ -216,14 +189,18 @@ rows_in o ks row (next ∷ rows) e =
 
 -- ---- as FIRE reads them
 
+pub plus_none : (a : ℕ) → a ≡ a + 0
+plus_none a = omega arith
+
+pub from_none : (j : ℕ) → 0 + j ≡ j
+from_none j = omega arith
+
 pub plus_more : (a j : ℕ) → suc a + j ≡ a + suc j
 plus_more a j = omega arith
 
 accs_from : (p : Program) (m n a : ℕ) (ks : List Kind) (vs : List Value) → p.header.clock.records ≡ pos m → 1 ≤ n → n ≤ m → ((j : ℕ) → slice_get p.header.kinds (a + j) ≡ slice_get ks j)
     → list_all is_word vs ≡ true → ValuesIn (λ b. values_folded b (update_visits p)) a n ks vs → accs_in p a ks vs ≡ true
 accs_from p m n a [] [] r f l at w h = refl
-accs_from p m n a [] (v ∷ vs) r f l at w h = absurd h
-accs_from p m n a (k ∷ ks) [] r f l at w h = absurd h
 accs_from p m n a (k ∷ ks) (v ∷ vs) r f l at w h =
     let words = and_parts (is_word v) (list_all is_word vs) w in
     let there : range p a ≡ and_then (accumulated (pos m) k) (values_folded a (update_visits p)) =
@@ -232,9 +209,7 @@ accs_from p m n a (k ∷ ks) (v ∷ vs) r f l at w h =
     (and_from (is_value_in (range p a) k v) (is_word v)
     (subst (λ o. is_value_in o k v ≡ true) (sym there) (in_accumulated m n k (values_folded a (update_visits p)) v f l h.0)) words.0)
     (accs_from p m n (suc a) ks vs r f l (λ j. ap (slice_get p.header.kinds) (plus_more a j) ∙ at (suc j)) words.1 h.1)
-  where
-    plus_none : (a : ℕ) → a ≡ a + 0
-    plus_none a = omega arith
+accs_from p m n a ks vs r f l at w h = absurd h
 
 -- the records of a program as a count
 pub counted : (z : ℤ) (n : ℕ) → pos n ≤ℤ z → (m : ℕ) × (z ≡ pos m) × (n ≤ m)
@@ -250,17 +225,13 @@ accs_of_rows p (row ∷ rows) held e few is w =
     accs_from p records.0 (length (row ∷ rows)) 0 p.header.kinds held records.1 (omega arith) records.2 (λ j. ap (slice_get p.header.kinds) (from_none j)) w
     (subst (ValuesIn (λ b. values_folded b (update_visits p)) 0 (length (row ∷ rows)) p.header.kinds) (same_Some (joined_to (joins p.header.kinds) row (folds_of p.header.kinds rows)) held is)
     (rows_in (λ b. values_folded b (update_visits p)) p.header.kinds row rows e))
-  where
-    from_none : (j : ℕ) → 0 + j ≡ j
-    from_none j = omega arith
 
 -- what is in range for FIRE has the accumulators' types
 pub accs_types : (p : Program) (a : ℕ) (ks : List Kind) (vs : List Value) → accs_in p a ks vs ≡ true → are_of_kinds ks vs ≡ true
 accs_types p a [] [] h = refl
-accs_types p a [] (v ∷ vs) h = no h
-accs_types p a (k ∷ ks) [] h = no h
 accs_types p a (k ∷ ks) (v ∷ vs) h =
     let r = range p a in
     let b = and_parts (is_acc_in r k v) (accs_in p (suc a) ks vs) h in
     let c = and_parts (is_value_in r k v) (is_word v) b.0 in
     and_from (is_of_kind k v) (are_of_kinds ks vs) (and_parts (is_of_kind k v) (is_number_in r v) c.0).0 (accs_types p (suc a) ks vs b.1)
+accs_types p a ks vs h = no h

@@ -15,7 +15,7 @@ use Rattle.wsm_program.specs.declared.instr.Instr.{Instr}
 use Rattle.wsm_program.specs.declared.instr.Instr.TheVariants.{Fold}
 use Rattle.wsm_program.specs.Instructions.{kind_of}
 use Rattle.wsm_rules.specs.declared.known.Known.{Known}
-use Rattle.wsm_rules.specs.declared.known.Known.TheVariants.{Number, Truth, NameOf}
+use Rattle.wsm_rules.specs.declared.known.Known.TheVariants.{Number, Truth}
 use Rattle.wsm_rules.specs.Labels.{State as Knows, Reached, Visit, visit_of, visits, label_of, label_at}
 use Rattle.wsm_rules.specs.Rules.{Setting as Rules, has_type, types_fit, last_number, hull_options, value_folded, values_folded}
 use Rattle.wsm_record.specs.declared.cell.Cell.{Cell}
@@ -25,7 +25,6 @@ use Rattle.wsm_machine.specs.Fits.{Fits, FitsAll}
 use Rattle.wsm_machine.specs.InRange.{is_number_in, is_value_in, are_values_in}
 use Rattle.wsm_machine.proofs.Runs.{goes_after, length-folds}
 use Rattle.wsm_machine.proofs.RunsToReturn.{none≢some, StepsKeep, split_all, length-visits}
-use Rattle.wsm_machine.proofs.FittingStacks.{no}
 use Rattle.wsm_machine.proofs.AccumulatorRanges.{holds_true}
 use Rattle.wsm_semantics.proofs.Each.{itself}
 
@@ -58,24 +57,11 @@ folds_value : (k : Kind) (x : Known) (c : Cell) (o : Option Interval) → has_ty
 folds_value Sum (Number y) (cell.Int n) o t f h = number_in o n (h y n refl f)
 folds_value Min (Number y) (cell.Int n) o t f h = number_in o n (h y n refl f)
 folds_value Max (Number y) (cell.Int n) o t f h = number_in o n (h y n refl f)
-folds_value Any (Number y) c o t f h = no t
-folds_value All (Number y) c o t f h = no t
-folds_value k (Number y) (cell.Bool b) o t f h = absurd f
-folds_value k (Number y) (cell.Enum d i) o t f h = absurd f
-folds_value Sum Truth c o t f h = no t
-folds_value Min Truth c o t f h = no t
-folds_value Max Truth c o t f h = no t
 folds_value Any Truth (cell.Bool b) (Some x) t f h = refl
 folds_value Any Truth (cell.Bool b) None t f h = refl
 folds_value All Truth (cell.Bool b) (Some x) t f h = refl
 folds_value All Truth (cell.Bool b) None t f h = refl
-folds_value k Truth (cell.Int n) o t f h = absurd f
-folds_value k Truth (cell.Enum d i) o t f h = absurd f
-folds_value Sum (NameOf e) c o t f h = no t
-folds_value Min (NameOf e) c o t f h = no t
-folds_value Max (NameOf e) c o t f h = no t
-folds_value Any (NameOf e) c o t f h = no t
-folds_value All (NameOf e) c o t f h = no t
+folds_value k x c o t f h = absurd (first_of (assumption, cc))
 
 got_set : (xs : List (Option Value)) (a b : ℕ) (y z : Value) → slice_get (slice_set xs b (Some y)) a ≡ Some (Some z) → ((a ≡ b) × (y ≡ z)) ⊎ (slice_get xs a ≡ Some (Some z))
 got_set [] a b y z e = none≢some e
@@ -133,8 +119,6 @@ module _ (v : Rules) (e : Knows) (c : Setting) where
 
 pub are_in : (o : ℕ → Option Interval) (a : ℕ) (ks : List Kind) (vs : List Value) → length vs ≡ length ks → ((j : ℕ) (x : Value) → slice_get vs j ≡ Some x → is_value_in (o (a + j)) (kind_of ks j) x ≡ true) → are_values_in o a ks vs ≡ true
 are_in o a [] [] l h = refl
-are_in o a [] (x ∷ vs) l h = absurd (omega (arith, l))
-are_in o a (k ∷ ks) [] l h = absurd (omega (arith, l))
 are_in o a (k ∷ ks) (x ∷ vs) l h =
     and_from (is_value_in (o a) k x) (are_values_in o (suc a) ks vs)
     (subst (λ n. is_value_in (o n) k x ≡ true) (plus_none a) (h 0 x refl))
@@ -145,6 +129,7 @@ are_in o a (k ∷ ks) (x ∷ vs) l h =
 
     plus_more : (a j : ℕ) → a + suc j ≡ suc a + j
     plus_more a j = omega arith
+are_in o a ks vs l h = absurd (omega (arith, l))
 
 unmapped : (vs : List Value) (j : ℕ) (x : Value) → slice_get vs j ≡ Some x → slice_get (map Some vs) j ≡ Some (Some x)
 unmapped [] j x g = none≢some g

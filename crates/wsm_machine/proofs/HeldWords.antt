@@ -1,5 +1,5 @@
 -- What accumulators hold of rows that UPDATE folded has 64 bits, and is in the range that FIRE reads.
-use Rattle.std.proofs.Common.{◌≡◌, ℕ, suc, ◌+◌, ◌≤◌, true, List, [], ◌∷◌, length, Option, Some, None, Ok, IsTrue, refl, subst, ap, ◌∙◌, arith}
+use Rattle.std.proofs.Common.{◌≡◌, ℕ, suc, ◌+◌, ◌≤◌, true, List, [], ◌∷◌, length, Option, Some, None, Ok, IsTrue, refl, subst, ap, ◌∙◌}
 use Rattle.std.specs.Prelude.{pos, ◌≤ℤ◌, IfSome, slice_get}
 use Rattle.std.specs.List.{list_all}
 use Rattle.std.proofs.lemmas.Bool.{and_from}
@@ -15,7 +15,7 @@ use Rattle.wsm_program.specs.Program.{Program, is_program}
 use Rattle.wsm_program.specs.declared.program.Costs.{Costs}
 use Rattle.wsm_rules.specs.Rules.{values_folded, update_visits, judge}
 use Rattle.wsm_machine.specs.InRange.{is_word, are_folded_in, accs_in}
-use Rattle.wsm_machine.proofs.AccumulatorRanges.{plus_more, through, NumberIn, IsTruthValue, Multiplied, ValueIn, ValuesIn, counted, accs_of_rows}
+use Rattle.wsm_machine.proofs.AccumulatorRanges.{plus_more, through, NumberIn, IsTruthValue, Multiplied, ValueIn, ValuesIn, counted, accs_of_rows, plus_none, from_none}
 use Rattle.wsm_machine.proofs.FittingSums.{EndsFit, ends_fit, least_end, greatest_end, folded_rows}
 use Rattle.wsm_machine.proofs.KnownWords.{HasWords, folded_within_words}
 use Rattle.wsm_machine.proofs.Words.{is_word_number}
@@ -35,9 +35,8 @@ number_word (Some x) (values.Bool b) w h = refl
 number_word (Some x) (values.Enum i) w h = refl
 
 truth_word : (v : Value) → IsTruthValue v → is_word v ≡ true
-truth_word (values.Int z) h = absurd h
 truth_word (values.Bool b) h = refl
-truth_word (values.Enum i) h = absurd h
+truth_word v h = absurd h
 
 module _ (p : Program) (need : Costs) (judged : judge p ≡ Ok need) (whole : IsTrue (is_program p)) where
   value_word : (m n a : ℕ) (k : Kind) (v : Value) → p.header.clock.records ≡ pos m → n ≤ m → slice_get p.header.kinds a ≡ Some k → ValueIn k (values_folded a (update_visits p)) n v → is_word v ≡ true
@@ -52,23 +51,16 @@ module _ (p : Program) (need : Costs) (judged : judge p ≡ Ok need) (whole : Is
   words_from : (m n a : ℕ) (ks : List Kind) (vs : List Value) → p.header.clock.records ≡ pos m → n ≤ m → ((j : ℕ) → slice_get p.header.kinds (a + j) ≡ slice_get ks j)
       → ValuesIn (λ b. values_folded b (update_visits p)) a n ks vs → list_all is_word vs ≡ true
   words_from m n a [] [] r l at h = refl
-  words_from m n a [] (v ∷ vs) r l at h = absurd h
-  words_from m n a (k ∷ ks) [] r l at h = absurd h
   words_from m n a (k ∷ ks) (v ∷ vs) r l at h =
       and_from (is_word v) (list_all is_word vs)
       (value_word m n a k v r l (ap (slice_get p.header.kinds) (plus_none a) ∙ at 0) h.0)
       (words_from m n (suc a) ks vs r l (λ j. ap (slice_get p.header.kinds) (plus_more a j) ∙ at (suc j)) h.1)
-    where
-      plus_none : (a : ℕ) → a ≡ a + 0
-      plus_none a = omega arith
+  words_from m n a ks vs r l at h = absurd h
 
   held_words : (rows : List (List Value)) (held : List Value) → list_all (are_folded_in p) rows ≡ true → pos (length rows) ≤ℤ p.header.clock.records → folds_of p.header.kinds rows ≡ Some held → list_all is_word held ≡ true
   held_words rows held e few is =
       let records = counted p.header.clock.records (length rows) few in
       words_from records.0 (length rows) 0 p.header.kinds held records.1 records.2 (λ j. ap (slice_get p.header.kinds) (from_none j)) (folded_rows p rows held e is)
-    where
-      from_none : (j : ℕ) → 0 + j ≡ j
-      from_none j = omega arith
 
 -- Where UPDATE folded each row, and there are at most as many as the program allows, what the accumulators hold is what FIRE may read.
 pub held_in_range : (p : Program) (costs : Costs) (rows : List (List Value)) (held : List Value) → judge p ≡ Ok costs → IsTrue (is_program p) → IsTrue (list_all (are_folded_in p) rows)

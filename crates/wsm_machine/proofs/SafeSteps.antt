@@ -50,19 +50,13 @@ small l n k e f g = grind arith
 room_for : (n : ℕ) (vs : List Known) (push : Option Cell) (ks : List Known) (xs : List Cell) → FitsPushed vs push → length xs ≡ length ks → nat_lt (length ks) n ≡ false
     → nat_lt (32 + n) (length ks + length vs) ≡ false → has_no_room (drop n xs) push ≡ false
 room_for n [] None ks xs h l e f = refl
-room_for n [] (Some x) ks xs h l e f = absurd h
-room_for n (v ∷ []) None ks xs h l e f = absurd h
 room_for n (v ∷ []) (Some x) ks xs h l e f = small (length ks) n (length (drop n xs)) (length-drop n xs ∙ ap (λ k. k - n) l) e f
-room_for n (v ∷ w ∷ vs) None ks xs h l e f = absurd h
-room_for n (v ∷ w ∷ vs) (Some x) ks xs h l e f = absurd h
+room_for n vs push ks xs h l e f = absurd h
 
 push_fits : (vs : List Known) (push : Option Cell) (ks : List Known) (xs : List Cell) → FitsPushed vs push → FitsAll ks xs → FitsAll (vs ++ ks) (push_on push xs)
 push_fits [] None ks xs h g = g
-push_fits [] (Some x) ks xs h g = absurd h
-push_fits (v ∷ []) None ks xs h g = absurd h
 push_fits (v ∷ []) (Some x) ks xs h g = (h, g)
-push_fits (v ∷ w ∷ vs) None ks xs h g = absurd h
-push_fits (v ∷ w ∷ vs) (Some x) ks xs h g = absurd h
+push_fits vs push ks xs h g = absurd h
 
 flags_after : (i : Instr) (xs : List Cell) (folds : List (Option Value)) → nat_lt (length xs) (labels.pops i) ≡ false
     → labels.folded_after i (map is_some folds) ≡ map is_some (with_fold i xs folds)

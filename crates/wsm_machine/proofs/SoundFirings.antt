@@ -36,11 +36,9 @@ use Rattle.wsm_machine.specs.Sound.{AreFoldsOf, IsSoundPane, IsSoundEntry, AreSo
 use Rattle.wsm_machine.proofs.TurnCosts.{fire_within}
 use Rattle.wsm_machine.proofs.SoundPanes.{entered_sound}
 use Rattle.wsm_machine.proofs.SoundSteps.{record_in_range, room_for_record, admitted_within, all_can_fire}
+use Rattle.wsm_machine.proofs.RunsToReturn.{none≢some}
 
 -- ---- a firing has records
-
-some_is : {A X : Type 0} {a : A} → None ≡ Some a → X
-some_is {A} {X} {a} h = let tag : Option A → Bool = λ o. elim o [ None ↦ true | Some x ↦ false ] in absurd (true≢false (ap tag h))
 
 pub enough_some : (m n : ℕ) → is_enough m n ≡ true → 1 ≤ n
 enough_some zero n h = absurd (true≢false (sym h))
@@ -48,7 +46,7 @@ enough_some (suc m) n h = grind (arith, nat_tests)
 
 chosen_enough : (m n : ℕ) (kind k : PaneKind) → cond (is_enough m n) (Some kind) None ≡ Some k → 1 ≤ n
 chosen_enough m n kind k h =
-    elim (is_enough m n) as (λ b. is_enough m n ≡ b → cond b (Some kind) None ≡ Some k → 1 ≤ n) [ true ↦ λ e _. enough_some m n e | false ↦ λ _ g. some_is g ] refl h
+    elim (is_enough m n) as (λ b. is_enough m n ≡ b → cond b (Some kind) None ≡ Some k → 1 ≤ n) [ true ↦ λ e _. enough_some m n e | false ↦ λ _ g. none≢some g ] refl h
 
 -- by a record: one that isn't shown yet
 some_by_record : {X : Type 0} (q : Query) (w : ℤ) (d : Datum) (p : Place) (h : Pane X) (k : PaneKind) → kind_by_record q w d p h ≡ Some k → 1 ≤ h.unshown
@@ -58,17 +56,17 @@ some_by_record q w d p h k e =
         | true ↦ chosen_enough q.early h.unshown Early k
         | false ↦ chosen_enough q.late h.unshown Late k
       ] g
-      | false ↦ λ g. some_is g
+      | false ↦ λ g. none≢some g
     ] e
 
 either : (a b c d : Bool) (k : PaneKind) (n u : ℕ) → b ≡ nat_lt 0 n → d ≡ nat_lt 0 u → u ≤ n → cond (a && b) (Some OnTime) (cond (c && d) (Some Final) None) ≡ Some k → 1 ≤ n
 either true true c d k n u h g l e = grind (arith, nat_tests)
 either true false true true k n u h g l e = grind (arith, nat_tests)
-either true false true false k n u h g l e = some_is e
-either true false false d k n u h g l e = some_is e
+either true false true false k n u h g l e = none≢some e
+either true false false d k n u h g l e = none≢some e
 either false b true true k n u h g l e = grind (arith, nat_tests)
-either false b true false k n u h g l e = some_is e
-either false b false d k n u h g l e = some_is e
+either false b true false k n u h g l e = none≢some e
+either false b false d k n u h g l e = none≢some e
 
 -- by a watermark: one that the firing is computed over
 some_by_watermark : (q : Query) (old new : ℤ) (p : Place) (n u : ℕ) (k : PaneKind) → u ≤ n → kind_on_watermark q old new p n u ≡ Some k → 1 ≤ n

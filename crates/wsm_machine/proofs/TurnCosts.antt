@@ -29,6 +29,9 @@ use Rattle.wsm_machine.specs.Meaning.{record_inputs, pane_inputs, where_run, upd
 use Rattle.wsm_machine.specs.Sound.{IsDatumInRange}
 use Rattle.wsm_machine.proofs.CompleteRuns.{steps_within}
 
+through : {a b c : ℕ} → a ≤ b → b ≤ c → a ≤ c
+through h k = omega (arith, h, k)
+
 -- ---- windows of a record
 
 filtered : {A : Type 0} (t : A → Bool) (xs : List A) → length (filter t xs) ≤ length xs
@@ -63,32 +66,20 @@ once s h = let less : (s + s - 1) / s < 2 = (div-lt_iff_lt-mul h).1 (omega (arit
 pub windows_few : (sh : Shape) (t : ℤ) → IsShape sh → length (windows_of_shape sh t) ≤ windows_of_a_record sh
 windows_few (Fixed size) t ok =
     let n : ℕ = (unsigned_abs size + unsigned_abs size - 1) / unsigned_abs size in
-    least (length (windows_of size size t)) n 1
+    through
     (subst (λ k. length (windows_of size size t) ≤ k) (length-windows_up_to n size size (last_start size t)) (filtered (has_inside t) (windows_up_to n size size (last_start size t))))
     (once (unsigned_abs size) (omega (arith, ints, ok.period_low)))
-  where
-    least : (a b c : ℕ) → a ≤ b → b ≤ c → a ≤ c
-    least a b c h k = omega (arith, h, k)
 windows_few (Sliding size period) t ok =
     let n : ℕ = (unsigned_abs size + unsigned_abs period - 1) / unsigned_abs period in
-    least (length (windows_of size period t)) n (div_ceil (unsigned_abs size) (unsigned_abs period))
+    through
     (subst (λ k. length (windows_of size period t) ≤ k) (length-windows_up_to n size period (last_start period t)) (filtered (has_inside t) (windows_up_to n size period (last_start period t))))
     (rounded_up (unsigned_abs size) (unsigned_abs period) (omega (arith, ints, ok.period_low)))
-  where
-    least : (a b c : ℕ) → a ≤ b → b ≤ c → a ≤ c
-    least a b c h k = omega (arith, h, k)
 windows_few (Session gap) t ok = omega arith
 
 -- no more of them are live
 pub entered_few : (sh : Shape) (lateness : ℤ) (d : Datum) → IsShape sh → windows_entered sh d.time lateness d.mark ≤ windows_of_a_record sh
 entered_few (Fixed size) lateness d ok = through (filtered (λ w. is_live w lateness d.mark) (windows_of_shape (Fixed size) d.time)) (windows_few (Fixed size) d.time ok)
-  where
-    through : {a b c : ℕ} → a ≤ b → b ≤ c → a ≤ c
-    through h k = omega (arith, h, k)
 entered_few (Sliding size period) lateness d ok = through (filtered (λ w. is_live w lateness d.mark) (windows_of_shape (Sliding size period) d.time)) (windows_few (Sliding size period) d.time ok)
-  where
-    through : {a b c : ℕ} → a ≤ b → b ≤ c → a ≤ c
-    through h k = omega (arith, h, k)
 entered_few (Session gap) lateness d ok = omega arith
 
 -- ---- what is stated
@@ -100,10 +91,8 @@ pub record States (p : Program) (n : Costs) : Type 0 where
   pub held : n.held ≤ p.header.budget.held
 
 none_first : (f : Rule → Rejection) (r s t : Rule) (a b c : Bool) → option_map f (first_of ((r, a) ∷ (s, b) ∷ (t, c) ∷ [])) ≡ None → (a ≡ false) × (b ≡ false) × (c ≡ false)
-none_first f r s t true b c h = absurd (cc)
-none_first f r s t false true c h = absurd (cc)
-none_first f r s t false false true h = absurd (cc)
 none_first f r s t false false false h = (refl, refl, refl)
+none_first f r s t a b c h = absurd (cc)
 
 pub stated : (p : Program) (costs : Costs) → judge p ≡ Ok costs → States p (needed p)
 stated p costs judged =
@@ -142,7 +131,4 @@ module _ (p : Program) (costs : Costs) (judged : judge p ≡ Ok costs) (lawful :
   -- a firing that FIRE may read
   pub fire_within : (key n : ℕ) (held : List Value) → IsTrue (in_range p Fire (pane_inputs key n held)) → (fire_run p key n held).steps ≤ p.header.budget.per_pane
   fire_within key n held ranged =
-      through (fire_run p key n held).steps (longest_path p.fire) p.header.budget.per_pane (steps_within p costs judged lawful Fire (pane_inputs key n held) ranged) (stated p costs judged).per_pane
-    where
-      through : (a b c : ℕ) → a ≤ b → b ≤ c → a ≤ c
-      through a b c h k = omega (arith, h, k)
+      through (steps_within p costs judged lawful Fire (pane_inputs key n held) ranged) (stated p costs judged).per_pane

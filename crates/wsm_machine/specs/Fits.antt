@@ -2,7 +2,7 @@
 use Rattle.std.specs.Prelude.{◌≡◌, ℕ, ◌<◌, ◌+◌, ◌⊎◌, false, List, [], ◌∷◌, length, map, Option, Some, None, is_some, option_map, slice_get, slice_index_or, IsTrue}
 use Rattle.wsm_interval.specs.Interval.{Holds}
 use Rattle.wsm_program.specs.declared.instr.Instr.{Instr}
-use Rattle.wsm_program.specs.declared.instr.Instr.TheVariants.{PushInt, PushBool, PushEnum, Field, Key, Acc, Count, Compute, Neg, Compare, Not, Jump, JumpIfFalse, Test, Fold, Return}
+use Rattle.wsm_program.specs.declared.instr.Instr.TheVariants.{PushInt, Field, Acc, Count, Return}
 use Rattle.wsm_program.specs.declared.instr.SectionId.{SectionId}
 use Rattle.wsm_program.specs.declared.instr.SectionId.TheVariants.{Where, Update, Fire}
 use Rattle.wsm_record.specs.declared.event.Value.{Value}
@@ -53,21 +53,10 @@ pub record FitsState (c : SectionId) (d : Inputs) (s : labels.State) (m : State)
 -- what the instruction reads of itself or of the inputs is in its range
 abbrev pub ReadsFit : labels.Ranges → List Known → Inputs → Instr → Type 0
 ReadsFit r ks d (PushInt n) = IsTrue (is_i64 n)
-ReadsFit r ks d (PushBool b) = Unit {0}
-ReadsFit r ks d (PushEnum e i) = Unit {0}
 ReadsFit r ks d (Field f) = FitsRead (slice_index_or ks f Truth) (option_map (cell_of (f + 1)) (slice_get d.values f))
-ReadsFit r ks d Key = Unit {0}
 ReadsFit r ks d (Acc a) = FitsRead (slice_index_or r.accumulators a Truth) (option_map (cell_of 0) (slice_get d.accs a))
 ReadsFit r ks d Count = FitsRead (Number r.count) (Some (Int d.count))
-ReadsFit r ks d (Compute a) = Unit {0}
-ReadsFit r ks d Neg = Unit {0}
-ReadsFit r ks d (Compare c) = Unit {0}
-ReadsFit r ks d Not = Unit {0}
-ReadsFit r ks d (Jump t) = Unit {0}
-ReadsFit r ks d (JumpIfFalse t) = Unit {0}
-ReadsFit r ks d (Test test t) = Unit {0}
-ReadsFit r ks d (Fold a) = Unit {0}
-ReadsFit r ks d Return = Unit {0}
+ReadsFit r ks d i = Unit {0}
 
 -- The step goes along an edge of the instruction to a place of the section, and leaves a state that fits what the edge carries.
 pub record GoesOn (p : Program) (c : SectionId) (r : labels.Ranges) (d : Inputs) (i : Instr) (s : labels.State) (m n : State) : Type 0 where
