@@ -77,14 +77,12 @@ sources_codes may_be small = counted names_in_turn new_name_codes (tested byte_c
 
 type_is_byte : (t : TypeTag) → type_tag t < 256
 type_is_byte of.Int = lit< tt
-type_is_byte of.Bool = lit< tt
-type_is_byte of.Enum = lit< tt
+type_is_byte t = lit< tt
 
 type_by_tag : (t : TypeTag) → type_by (type_tag t) ≡ Some t
 unfolding type_by
 type_by_tag of.Int = refl
-type_by_tag of.Bool = refl
-type_by_tag of.Enum = refl
+type_by_tag t = refl
 
 type_tag_codes : Codes Any Any type_tag_at (λ t. byte (type_tag t))
 unfolding type_tag_at type_by
@@ -131,8 +129,7 @@ type_by_codes of.Enum = wrapped Enum names_codes (λ ns _. (tt, refl)) an_enum (
 
 field_type_is : (t : FieldType) → byte (type_tag (tag_of t)) ++ behind_tag t ≡ field_type t
 field_type_is (Int lo hi) = refl
-field_type_is Truth = refl
-field_type_is (Enum ns) = refl
+field_type_is t = refl
 
 field_type_codes : Codes Any (λ t. is_field_type t ≡ true) field_type_at field_type
 unfolding field_type_at
@@ -237,14 +234,12 @@ windows_codes b tag le = wrapped (λ s. (s, b)) (all_good (shape_codes tag le)) 
 
 mode_is_byte : (m : Mode) → mode_tag m < 256
 mode_is_byte of_mode.Discarding = lit< tt
-mode_is_byte of_mode.Accumulating = lit< tt
-mode_is_byte of_mode.Retracting = lit< tt
+mode_is_byte m = lit< tt
 
 mode_by_tag : (m : Mode) → mode_by (mode_tag m) ≡ Some m
 unfolding mode_by
 mode_by_tag of_mode.Discarding = refl
-mode_by_tag of_mode.Accumulating = refl
-mode_by_tag of_mode.Retracting = refl
+mode_by_tag m = refl
 
 pub mode_codes : Codes Any Any mode_at mode
 unfolding mode_at mode_by
@@ -252,16 +247,12 @@ mode_codes = tagged_codes (record { small = mode_is_byte; again = mode_by_tag; a
 
 pub form_is_small : (f : Form) → form_tag f < 4
 form_is_small of_form.Panes = lit< tt
-form_is_small of_form.Istream = lit< tt
-form_is_small of_form.Dstream = lit< tt
-form_is_small of_form.Rstream = lit< tt
+form_is_small f = lit< tt
 
 form_by_tag : (f : Form) → form_by (form_tag f) ≡ Some f
 unfolding form_by
 form_by_tag of_form.Panes = refl
-form_by_tag of_form.Istream = refl
-form_by_tag of_form.Dstream = refl
-form_by_tag of_form.Rstream = refl
+form_by_tag f = refl
 
 form_table : IsTable form_tag form_by
 unfolding form_by
@@ -284,18 +275,12 @@ form_is m n f e =
 
 kind_is_byte : (k : Kind) → kind_tag k < 256
 kind_is_byte folds.Sum = lit< tt
-kind_is_byte folds.Min = lit< tt
-kind_is_byte folds.Max = lit< tt
-kind_is_byte folds.Any = lit< tt
-kind_is_byte folds.All = lit< tt
+kind_is_byte k = lit< tt
 
 kind_by_tag : (k : Kind) → kind_by (kind_tag k) ≡ Some k
 unfolding kind_by
 kind_by_tag folds.Sum = refl
-kind_by_tag folds.Min = refl
-kind_by_tag folds.Max = refl
-kind_by_tag folds.Any = refl
-kind_by_tag folds.All = refl
+kind_by_tag k = refl
 
 kind_codes : Codes Any Any kind_at kind
 unfolding kind_at kind_by
@@ -362,8 +347,7 @@ column_by_codes s few of.Enum = wrapped types.Enum (enum_number_codes s few) (λ
 
 column_is : (t : CellType) → byte (type_tag (column_tag t)) ++ behind_column t ≡ column t
 column_is types.Int = refl
-column_is types.Bool = refl
-column_is (types.Enum e) = refl
+column_is t = refl
 
 column_codes : (s : Declared) → leb (length s.fields) 16 ≡ true → Codes Any (λ t. is_column s t ≡ true) (column_at s) column
 unfolding column_at

@@ -8,8 +8,7 @@ use Rattle.wsm_bytecode.specs.Tags.{shape_tag, last_shape_tag}
 
 pub shape_tag_most : (s : Shape) → shape_tag s ≤ 2
 shape_tag_most (Fixed n) = omega arith
-shape_tag_most (Sliding n d) = omega arith
-shape_tag_most (Session n) = omega arith
+shape_tag_most s = omega arith
 
 -- a shape from whose windows' ends lateness is counted is none of sessions
 pub tag_within : (s : Shape) (b : Bool) → is_timely b s ≡ true → shape_tag s ≤ last_shape_tag b

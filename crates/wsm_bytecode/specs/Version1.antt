@@ -8,7 +8,7 @@ use Rattle.wsm_record.specs.declared.limits.TheConstants.{MAX_SOURCES}
 use Rattle.wsm_record.specs.Name.{is_between}
 use Rattle.wsm_windows.specs.declared.Shape.{Shape}
 use Rattle.wsm_program.specs.declared.instr.Instr.{Instr}
-use Rattle.wsm_program.specs.declared.instr.Instr.TheVariants.{PushInt, PushBool, PushEnum, Field, Key, Acc, Count, Compute, Neg, Compare, Not, Jump, JumpIfFalse, Test, Fold, Return}
+use Rattle.wsm_program.specs.declared.instr.Instr.TheVariants.{Test}
 use Rattle.wsm_program.specs.Program.{Name}
 use Rattle.wsm_bytecode.specs.declared.tags.TheConstants.{FORM_COUNT, SHAPE_COUNT}
 use Rattle.wsm_bytecode.specs.Tags.{form_tag, shape_tag, last_shape_tag}
@@ -32,22 +32,8 @@ abbrev pub settings : Settings → List ℕ
 settings s = windows s.from_window s.shape ++ mode s.mode ++ signed s.early ++ signed s.late ++ output s.sources s.form
 
 abbrev pub has : Instr → Bool
-has (PushInt n) = true
-has (PushBool b) = true
-has (PushEnum e i) = true
-has (Field f) = true
-has Key = true
-has (Acc a) = true
-has Count = true
-has (Compute a) = true
-has Neg = true
-has (Compare c) = true
-has Not = true
-has (Jump t) = true
-has (JumpIfFalse t) = true
 has (Test x t) = false
-has (Fold a) = true
-has Return = true
+has i = true
 
 -- ---- how it is read
 

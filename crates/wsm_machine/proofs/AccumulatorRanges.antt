@@ -82,10 +82,8 @@ greatest_multiple m n x f l = elim (signs x) [
 -- ---- what an accumulator holds of n values
 
 abbrev pub NumberIn : (Interval → ℤ → Type 0) → Option Interval → Value → Type 0
-NumberIn f None v = ⊥
 NumberIn f (Some x) (values.Int z) = f x z
-NumberIn f (Some x) (values.Bool b) = ⊥
-NumberIn f (Some x) (values.Enum i) = ⊥
+NumberIn f x v = ⊥
 
 abbrev pub IsTruthValue : Value → Type 0
 IsTruthValue (values.Int z) = ⊥

@@ -7,14 +7,14 @@ use Rattle.std.proofs.lemmas.List.{reverse-append}
 use Rattle.std.proofs.lemmas.Bool.{and_parts}
 use Rattle.wsm_interval.specs.declared.interval.Interval.{Interval}
 use Rattle.wsm_interval.specs.declared.comparison.Comparison.{Comparison}
-use Rattle.wsm_interval.specs.declared.comparison.Comparison.TheVariants.{Eq as EqTo, Ne as NeTo, Lt as LtTo, Le as LeTo, Gt as GtTo, Ge as GeTo}
+use Rattle.wsm_interval.specs.declared.comparison.Comparison.TheVariants.{Eq as EqTo}
 use Rattle.wsm_interval.specs.Interval.{hull, computed, neg}
 use Rattle.wsm_interval.specs.Narrowing.{narrow}
 use Rattle.wsm_record.specs.Schema.{FieldType, Int as IntField, Truth as TruthField, Enum as EnumField, DeclaredField, is_i64, is_field_type, is_field_after, are_fields_after}
 use Rattle.wsm_record.specs.Name.{is_name}
 use Rattle.wsm_program.specs.declared.instr.FieldTest.{FieldTest}
 use Rattle.wsm_program.specs.declared.instr.Instr.{Instr}
-use Rattle.wsm_program.specs.declared.instr.Instr.TheVariants.{PushInt, PushBool, PushEnum, Field, Key, Acc, Count, Compute, Neg, Compare, Not, Jump, JumpIfFalse, Test, Fold, Return}
+use Rattle.wsm_program.specs.declared.instr.Instr.TheVariants.{PushInt, Field, Acc, Count, Compute, Neg, Jump, JumpIfFalse, Test, Fold, Return}
 use Rattle.wsm_program.specs.declared.instr.SectionId.TheVariants.{Update}
 use Rattle.wsm_program.specs.Instructions.{opposite_test}
 use Rattle.wsm_program.specs.Program.{Name, Header, Program, is_program, is_instr}
@@ -64,11 +64,7 @@ PushesWord _ = Unit {0}
 
 narrow_inside : (a b : ℤ) (o : Comparison) (c : ℤ) (x : Interval) → a ≤ℤ x.lo → x.hi ≤ℤ b → (a ≤ℤ (narrow o c x).lo) × ((narrow o c x).hi ≤ℤ b)
 narrow_inside a b EqTo c x h k = grind (arith, ints)
-narrow_inside a b NeTo c x h k = grind (arith, ints)
-narrow_inside a b LtTo c x h k = grind (arith, ints)
-narrow_inside a b LeTo c x h k = grind (arith, ints)
-narrow_inside a b GtTo c x h k = grind (arith, ints)
-narrow_inside a b GeTo c x h k = grind (arith, ints)
+narrow_inside a b o c x h k = grind (arith, ints)
 
 hull_inside : (a b : ℤ) (x y : Interval) → a ≤ℤ x.lo → x.hi ≤ℤ b → a ≤ℤ y.lo → y.hi ≤ℤ b → (a ≤ℤ (hull x y).lo) × ((hull x y).hi ≤ℤ b)
 hull_inside a b x y h k l m = (grind (arith, ints), grind (arith, ints))
@@ -118,21 +114,17 @@ two_words f w ks = tt
 
 pushed_words : (r : Ranges) (i : Instr) (s : State) → RangesWords r → PushesWord i → StateWords s → IfSome (pushed r i s) (AllByRecursion KnowsWords)
 pushed_words r (PushInt n) s w g h = (word_is n g, tt)
-pushed_words r (PushBool b) s w g h = (tt, tt)
-pushed_words r (PushEnum e i) s w g h = (tt, tt)
 pushed_words r (Field f) s w g h = (index_words s.fields f h.1, tt)
-pushed_words r Key s w g h = (tt, tt)
 pushed_words r (Acc a) s w g h = (index_words r.accumulators a w.1, tt)
 pushed_words r Count s w g h = (w.0, tt)
 pushed_words r (Compute a) s w g h = two_words (computed a) (computed_within a) s.stack
 pushed_words r Neg s w g h = one_words neg neg_within s.stack
-pushed_words r (Compare c) s w g h = (tt, tt)
-pushed_words r Not s w g h = (tt, tt)
 pushed_words r (Jump t) s w g h = tt
 pushed_words r (JumpIfFalse t) s w g h = tt
 pushed_words r (Test x t) s w g h = tt
 pushed_words r (Fold a) s w g h = tt
 pushed_words r Return s w g h = tt
+pushed_words r i s w g h = (tt, tt)
 
 -- ---- what it leaves, and what its edges carry
 

@@ -1,5 +1,5 @@
 -- An instruction of which no verifier rule holds meets no trap, and leads along an edge to a state that fits what the edge carries.
-use Rattle.std.proofs.Common.{◌≡◌, ◌∙◌, ℕ, zero, suc, ◌+◌, ◌-◌, ◌<◌, Bool, true, false, not, ◌⊎◌, inl, inr, List, [], ◌∷◌, ◌++◌, length, drop, map, Option, Some, None, refl, sym, subst, ap, arith, length-drop}
+use Rattle.std.proofs.Common.{◌≡◌, ◌∙◌, ℕ, suc, ◌+◌, ◌-◌, ◌<◌, Bool, true, false, not, ◌⊎◌, inl, inr, List, [], ◌∷◌, ◌++◌, length, drop, map, Option, Some, None, refl, sym, subst, ap, arith, length-drop}
 use Rattle.std.proofs.lemmas.Bool.{true≢false, not-false}
 use Rattle.std.proofs.lemmas.List.{map-set}
 use Rattle.std.specs.Prelude.{nat_lt, is_some, is_none, option_map, slice_index_or}
@@ -33,10 +33,8 @@ same_pops kinds Return = refl
 same_pops kinds i = refl
 
 folded_once : (folds : List (Option Value)) (a : ℕ) → folds_twice (Fold a) folds ≡ slice_index_or (map is_some folds) a false
-folded_once [] a = refl
-folded_once (None ∷ folds) zero = refl
-folded_once (Some v ∷ folds) zero = refl
 folded_once (f ∷ folds) (suc a) = folded_once folds a
+folded_once folds a = refl
 
 same_folds : (i : Instr) (folds : List (Option Value)) → folds_twice i folds ≡ rules.folds_again i (map is_some folds)
 same_folds (Fold a) folds = folded_once folds a

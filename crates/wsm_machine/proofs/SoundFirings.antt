@@ -62,11 +62,8 @@ some_by_record q w d p h k e =
 either : (a b c d : Bool) (k : PaneKind) (n u : ℕ) → b ≡ nat_lt 0 n → d ≡ nat_lt 0 u → u ≤ n → cond (a && b) (Some OnTime) (cond (c && d) (Some Final) None) ≡ Some k → 1 ≤ n
 either true true c d k n u h g l e = grind (arith, nat_tests)
 either true false true true k n u h g l e = grind (arith, nat_tests)
-either true false true false k n u h g l e = none≢some e
-either true false false d k n u h g l e = none≢some e
 either false b true true k n u h g l e = grind (arith, nat_tests)
-either false b true false k n u h g l e = none≢some e
-either false b false d k n u h g l e = none≢some e
+either a b c d k n u h g l e = none≢some e
 
 -- by a watermark: one that the firing is computed over
 some_by_watermark : (q : Query) (old new : ℤ) (p : Place) (n u : ℕ) (k : PaneKind) → u ≤ n → kind_on_watermark q old new p n u ≡ Some k → 1 ≤ n
