@@ -27,6 +27,7 @@ use Rattle.wsm_machine.proofs.Runs.{goes_after, length-folds}
 use Rattle.wsm_machine.proofs.RunsToReturn.{none≢some, StepsKeep, split_all, length-visits}
 use Rattle.wsm_machine.proofs.AccumulatorRanges.{holds_true}
 use Rattle.wsm_semantics.proofs.Each.{itself}
+use Rattle.std.proofs.lemmas.List.{length-map}
 
 -- ---- the hull holds what each place folds
 
@@ -136,14 +137,10 @@ unmapped [] j x g = none≢some g
 unmapped (y ∷ vs) zero x g = ap Some g
 unmapped (y ∷ vs) (suc j) x g = unmapped vs j x g
 
-length-somes : (vs : List Value) → length (map Some vs) ≡ length vs
-length-somes [] = refl
-length-somes (x ∷ vs) = ap suc (length-somes vs)
-
 -- where every accumulator is folded
 pub folded_in : (v : Rules) (seen : List Visit) (m : State) (vs : List Value) → FoldsFit v seen m → m.folds ≡ map Some vs → are_values_in (λ a. values_folded a seen) 0 v.kinds vs ≡ true
 folded_in v seen m vs h all =
-    are_in (λ a. values_folded a seen) 0 v.kinds vs (sym (length-somes vs) ∙ ap length (sym all) ∙ h.places)
+    are_in (λ a. values_folded a seen) 0 v.kinds vs (sym (length-map vs Some) ∙ ap length (sym all) ∙ h.places)
     (λ j x g. subst (λ n. is_value_in (values_folded n seen) (kind_of v.kinds j) x ≡ true) (from_none j) (h.values j x (ap (λ l. slice_get l j) all ∙ unmapped vs j x g)))
   where
     from_none : (j : ℕ) → j ≡ 0 + j

@@ -1,6 +1,6 @@
 -- The intervals that the verifier knows in the section UPDATE of a lawful program have ends of 64 bits.
 use Rattle.std.proofs.Common.{◌≡◌, ℕ, zero, suc, true, false, ◌&&◌, cond, List, [], ◌∷◌, ◌++◌, length, drop, reverse, Option, Some, None, sym, subst, arith}
-use Rattle.std.specs.Prelude.{ℤ, pos, negsuc, ◌≤ℤ◌, IfSome, IsTrue, nat_eq, int_le, option_map, slice_index_or, slice_set}
+use Rattle.std.specs.Prelude.{ℤ, pos, negsuc, ◌≤ℤ◌, IfSome, IsTrue, nat_eq, int_le, option_map, slice_index_or}
 use Rattle.std.specs.List.{AllByRecursion, list_all}
 use Rattle.std.proofs.lemmas.Int.{ints}
 use Rattle.std.proofs.lemmas.List.{reverse-append}
@@ -29,7 +29,7 @@ use Rattle.wsm_semantics.proofs.Each.{all-append}
 use Rattle.wsm_machine.proofs.Operands.{rest_holds, instructions_lawful, section_lawful}
 use Rattle.wsm_machine.proofs.PushedValues.{Within, computed_within, neg_within}
 use Rattle.wsm_machine.proofs.Ranged.{fields_lawful}
-use Rattle.wsm_machine.proofs.Words.{word_is}
+use Rattle.wsm_machine.proofs.Words.{word_is, all-drop, all-set}
 
 -- the ends of an interval have 64 bits
 abbrev pub HasWords : Interval → Type 0
@@ -88,16 +88,6 @@ index_words [] n h = tt
 index_words (k ∷ ks) zero h = h.0
 index_words (k ∷ ks) (suc n) h = index_words ks n h.1
 
-set_words : (ks : List Known) (n : ℕ) (k : Known) → AllByRecursion KnowsWords ks → KnowsWords k → AllByRecursion KnowsWords (slice_set ks n k)
-set_words [] n k h g = tt
-set_words (l ∷ ks) zero k h g = (g, h.1)
-set_words (l ∷ ks) (suc n) k h g = (h.0, set_words ks n k h.1 g)
-
-drop_words : (ks : List Known) (n : ℕ) → AllByRecursion KnowsWords ks → AllByRecursion KnowsWords (drop n ks)
-drop_words ks zero h = h
-drop_words [] (suc n) h = tt
-drop_words (k ∷ ks) (suc n) h = drop_words ks n h.1
-
 -- ---- what an instruction pushes
 
 answer_words : (o : Option Interval) → IfSome o Within → IfSome (option_map (λ z. Number z ∷ []) o) (AllByRecursion KnowsWords)
@@ -131,7 +121,7 @@ pushed_words r i s w g h = (tt, tt)
 left_on : (i : Instr) (s : State) (o : Option (List Known)) → StateWords s → IfSome o (AllByRecursion KnowsWords)
     → IfSome (option_map (λ vs. record s { stack = vs ++ drop (pops i) s.stack; folded = folded_after i s.folded }) o) StateWords
 left_on i s None h g = tt
-left_on i s (Some vs) h g = (all-append KnowsWords vs (drop (pops i) s.stack) g (drop_words s.stack (pops i) h.0), h.1)
+left_on i s (Some vs) h g = (all-append KnowsWords vs (drop (pops i) s.stack) g (all-drop KnowsWords (pops i) s.stack h.0), h.1)
 
 left_words : (r : Ranges) (i : Instr) (l : Label) → RangesWords r → PushesWord i → LabelWords l → IfSome (left_from r i l) StateWords
 left_words r i Unreached w g h = tt
@@ -145,7 +135,7 @@ narrowed_known_words x k h = h
 narrowed_words : (x : FieldTest) (s : State) → StateWords s → StateWords (narrowed x s)
 narrowed_words x s h =
     let k = slice_index_or s.fields x.field Truth in
-    (h.0, set_words s.fields x.field (narrowed_known x k) h.1 (narrowed_known_words x k (index_words s.fields x.field h.1)))
+    (h.0, all-set KnowsWords s.fields x.field (narrowed_known x k) h.1 (narrowed_known_words x k (index_words s.fields x.field h.1)))
 
 along_words : (i : Instr) (p q : ℕ) (s : State) → StateWords s → StateWords (along i p q s)
 along_words (Test x t) p q s h =

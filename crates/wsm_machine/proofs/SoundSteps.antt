@@ -41,6 +41,7 @@ use Rattle.wsm_machine.specs.Meaning.{pane_inputs, query_of, plan_of}
 use Rattle.wsm_machine.specs.Sound.{AreFoldsOf, IsSoundEntry, AreSound, IsSoundState, IsDatumInRange}
 use Rattle.wsm_machine.proofs.SoundAccumulators.{may_fire, parts_fit}
 use Rattle.wsm_machine.proofs.SoundPanes.{sound_after_record, sound_after_watermark, sound_opened}
+use Rattle.wsm_semantics.proofs.Each.{all-both}
 
 module _ (p : Program) (costs : Costs) (judged : judge p ≡ Ok costs) (lawful : IsTrue (is_program p)) where
   -- an admitted record is in range
@@ -124,17 +125,13 @@ module _ (p : Program) (costs : Costs) (judged : judge p ≡ Ok costs) (lawful :
   abbrev pub CanFire : Place × Pane (List Value) → Type 0
   CanFire e = (held : List Value) → e.1.folded ≡ Some held → IsTrue (in_range p Fire (pane_inputs e.0.key (fired_count p.header.mode e.1) held))
 
-  both_each : {A : Type 0} (P Q : A → Type 0) (xs : List A) → AllByRecursion P xs → AllByRecursion Q xs → AllByRecursion (λ x. P x × Q x) xs
-  both_each P Q [] f g = tt
-  both_each P Q (x ∷ xs) f g = ((f.0, g.0), both_each P Q xs f.1 g.1)
-
   pub all_can_fire : (n : ℕ) (panes : List (Place × Pane (List Value))) → pos n ≤ℤ p.header.clock.records → AreSound p n panes → AllByRecursion CanFire panes
   all_can_fire n panes few h =
       all-each (λ e. IsSoundEntry p e × (e.1.count ≤ n)) CanFire panes
       (λ e f held is.
       may_fire p costs judged e.0.key (fired_count p.header.mode e.1) held f.0.key (subst (AreFoldsOf p (fired_count p.header.mode e.1)) is f.0.pane.folds)
       (least (fired_count p.header.mode e.1) (count_least p.header.mode n e.1 f.0.pane.unshown f.1)))
-      (both_each (IsSoundEntry p) (λ e. e.1.count ≤ n) panes h.each (each_of p.header.shape n panes h.counts))
+      (all-both (IsSoundEntry p) (λ e. e.1.count ≤ n) (λ e. IsSoundEntry p e × (e.1.count ≤ n)) (λ e f g. (f, g)) panes h.each (each_of p.header.shape n panes h.counts))
     where
       least : (m : ℕ) → m ≤ n → pos m ≤ℤ p.header.clock.records
       least m l = omega (arith, ints, few, l)

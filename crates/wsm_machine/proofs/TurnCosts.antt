@@ -3,7 +3,7 @@
 use Rattle.std.proofs.Common.{◌≡◌, ℕ, zero, suc, ◌+◌, ◌-◌, ◌*◌, ◌/◌, ◌%◌, ◌<◌, ◌≤◌, min, Bool, true, false, cond, List, [], ◌∷◌, length, ℤ, None, Ok, IsTrue, refl, sym, ap, subst, ◌∙◌, arith, length-append}
 use Rattle.std.proofs.lemmas.Int.{ints}
 use Rattle.std.proofs.Math.Nat.{div-lt_iff_lt-mul, div-add-mod'}
-use Rattle.std.specs.Prelude.{◌-ℤ◌, filter, unsigned_abs, option_map}
+use Rattle.std.specs.Prelude.{◌-ℤ◌, unsigned_abs, option_map}
 use Rattle.std.specs.Int.{div_ceil}
 use Rattle.std.proofs.lemmas.Bool.{ltb-false}
 use Rattle.wsm_record.specs.declared.event.Value.{Value}
@@ -28,17 +28,12 @@ use Rattle.wsm_machine.specs.InRange.{in_range}
 use Rattle.wsm_machine.specs.Meaning.{record_inputs, pane_inputs, where_run, update_run, fire_run, selects, record_steps, joins_sessions, record_cost_by, windows_entered}
 use Rattle.wsm_machine.specs.Sound.{IsDatumInRange}
 use Rattle.wsm_machine.proofs.CompleteRuns.{steps_within}
+use Rattle.wsm_semantics.proofs.ManyKeys.{length-filter}
 
 through : {a b c : ℕ} → a ≤ b → b ≤ c → a ≤ c
 through h k = omega (arith, h, k)
 
 -- ---- windows of a record
-
-filtered : {A : Type 0} (t : A → Bool) (xs : List A) → length (filter t xs) ≤ length xs
-filtered t [] = omega arith
-filtered t (x ∷ xs) =
-    let later : length (filter t xs) ≤ length xs = filtered t xs in
-    elim (t x) as (λ b. length (cond b (x ∷ filter t xs) (filter t xs)) ≤ suc (length xs)) [ true ↦ omega (arith, later) | false ↦ omega (arith, later) ]
 
 length-windows_up_to : (n : ℕ) (size period start : ℤ) → length (windows_up_to n size period start) ≡ n
 length-windows_up_to zero size period start = refl
@@ -67,19 +62,19 @@ pub windows_few : (sh : Shape) (t : ℤ) → IsShape sh → length (windows_of_s
 windows_few (Fixed size) t ok =
     let n : ℕ = (unsigned_abs size + unsigned_abs size - 1) / unsigned_abs size in
     through
-    (subst (λ k. length (windows_of size size t) ≤ k) (length-windows_up_to n size size (last_start size t)) (filtered (has_inside t) (windows_up_to n size size (last_start size t))))
+    (subst (λ k. length (windows_of size size t) ≤ k) (length-windows_up_to n size size (last_start size t)) (length-filter (has_inside t) (windows_up_to n size size (last_start size t))))
     (once (unsigned_abs size) (omega (arith, ints, ok.period_low)))
 windows_few (Sliding size period) t ok =
     let n : ℕ = (unsigned_abs size + unsigned_abs period - 1) / unsigned_abs period in
     through
-    (subst (λ k. length (windows_of size period t) ≤ k) (length-windows_up_to n size period (last_start period t)) (filtered (has_inside t) (windows_up_to n size period (last_start period t))))
+    (subst (λ k. length (windows_of size period t) ≤ k) (length-windows_up_to n size period (last_start period t)) (length-filter (has_inside t) (windows_up_to n size period (last_start period t))))
     (rounded_up (unsigned_abs size) (unsigned_abs period) (omega (arith, ints, ok.period_low)))
 windows_few (Session gap) t ok = omega arith
 
 -- no more of them are live
 pub entered_few : (sh : Shape) (lateness : ℤ) (d : Datum) → IsShape sh → windows_entered sh d.time lateness d.mark ≤ windows_of_a_record sh
-entered_few (Fixed size) lateness d ok = through (filtered (λ w. is_live w lateness d.mark) (windows_of_shape (Fixed size) d.time)) (windows_few (Fixed size) d.time ok)
-entered_few (Sliding size period) lateness d ok = through (filtered (λ w. is_live w lateness d.mark) (windows_of_shape (Sliding size period) d.time)) (windows_few (Sliding size period) d.time ok)
+entered_few (Fixed size) lateness d ok = through (length-filter (λ w. is_live w lateness d.mark) (windows_of_shape (Fixed size) d.time)) (windows_few (Fixed size) d.time ok)
+entered_few (Sliding size period) lateness d ok = through (length-filter (λ w. is_live w lateness d.mark) (windows_of_shape (Sliding size period) d.time)) (windows_few (Sliding size period) d.time ok)
 entered_few (Session gap) lateness d ok = omega arith
 
 -- ---- what is stated
