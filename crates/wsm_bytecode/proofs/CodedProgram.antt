@@ -17,7 +17,7 @@ use Rattle.wsm_program.specs.declared.instr.Opcode.TheVariants as opcodes
 use Rattle.wsm_program.specs.Instructions.{opcode, argument}
 use Rattle.wsm_program.specs.Opcodes.{code as code_of, of_code}
 use Rattle.wsm_program.specs.Comparisons.{comparison_number}
-use Rattle.wsm_program.specs.Program.{Name, Header, Program, is_name_of, is_number_field, is_test, is_instr, is_section, is_header, is_program}
+use Rattle.wsm_program.specs.Program.{Name, Header, Program, is_name_of, is_number_field, is_test, is_instr, is_section, is_header, is_program, is_column, is_budget}
 use Rattle.wsm_program.proofs.Opcodes.{code_is_byte, of_code_again, of_code_has_code}
 use Rattle.wsm_program.proofs.Comparisons as comparisons
 use Rattle.wsm_program.proofs.Lawful.{header_parts, few_fields}
@@ -30,8 +30,8 @@ use Rattle.wsm_bytecode.specs.Steps.{◌>>=◌, judged, number_at, names_at, fie
 use Rattle.wsm_bytecode.specs.Version1 as first
 use Rattle.wsm_bytecode.specs.Versions.{version_number, version_of_number}
 use Rattle.wsm_bytecode.specs.Spelling.{settings, header, spelling_in, has, spells, spelling, IsSpelling}
-use Rattle.wsm_bytecode.specs.Reading.{push_int_at, push_bool_at, push_enum_at, index_at, target_at, comparison_at, number_field_at, field_test_at, test_at, test_by, instr_by, instr_at, code_at, after_magic, version_at, settings_at, schema_of, clock_of, header_at, parts_at, program_at, all_read, decode}
-use Rattle.wsm_bytecode.proofs.Coded.{IsBytes, bind_then, ok_is, test_ok, Any, Codes, in_words, good_so, refused, just, made, chain, settled, wrapped, wrapped_two, tested, bytes_codes, byte_codes, number_codes_16, signed_codes, truth_codes, number_between, IsTable, found, found_is, tagged_codes, InTurn, counted}
+use Rattle.wsm_bytecode.specs.Reading.{push_int_at, push_bool_at, push_enum_at, index_at, target_at, comparison_at, number_field_at, field_test_at, test_at, test_by, instr_by, instr_at, code_at, after_magic, version_at, settings_at, schema_of, clock_of, back_at, header_at, sections_at, parts_at, program_at, all_read, decode}
+use Rattle.wsm_bytecode.proofs.Coded.{respelled, IsBytes, bind_then, ok_is, test_ok, Any, Codes, in_words, good_so, refused, just, made, chain, settled, wrapped, wrapped_two, tested, bytes_codes, byte_codes, number_codes_16, signed_codes, truth_codes, number_between, IsTable, found, found_is, tagged_codes, InTurn, counted}
 use Rattle.wsm_bytecode.proofs.CodedParts.{names_codes, fields_codes, times_codes, kinds_codes, enum_number_codes, columns_codes, budget_codes}
 use Rattle.wsm_bytecode.proofs.Settings.{SettingsParts, schema_parts}
 use Rattle.wsm_bytecode.proofs.Versions as versions
@@ -100,6 +100,10 @@ few_below n i h lt =
 names_there : (o : Option (List Name)) (i : ℕ) → is_name_of o i ≡ true → is_some o ≡ true
 names_there None i e = absurd (true≢false (sym e))
 names_there (Some ns) i e = refl
+
+-- a section of a program of the version
+abbrev IsCode : Version → Header → List Instr → Type 0
+IsCode v h is = (is_section h is ≡ true) × (list_all (has v) is ≡ true)
 
 module _ (v : Version) (h : Header) (few : FewParts h) where
   -- an instruction of the program that the version has
@@ -179,7 +183,7 @@ module _ (v : Version) (h : Header) (few : FewParts h) where
         );
   }
 
-  code_codes : Codes Any (λ is. (is_section h is ≡ true) × (list_all (has v) is ≡ true)) (code_at v h) code
+  code_codes : Codes Any (IsCode v h) (code_at v h) code
   unfolding code_at is_section code
   code_codes =
       good_so (counted instrs_in_turn (λ _. instr_codes) (number_between 0 1000 (lit< tt)) tt) (λ is. refl)
@@ -226,31 +230,39 @@ schema_made : (keys : List Name) (fs : List DeclaredField) (s : Settings) → is
 unfolding is_schema
 schema_made keys fs s named fielded sourced = and_from _ _ named (and_from _ _ fielded.0 (and_from _ _ fielded.1 sourced))
 
-regroup_7 : (a b c d e f g : List ℕ) → a ++ (b ++ (c ++ (d ++ (e ++ (f ++ (g ++ [])))))) ≡ a ++ b ++ c ++ d ++ e ++ f ++ g
+back_codes : (s : Declared) → leb (length s.fields) 16 ≡ true → Codes Any (λ b. (leb (length b.0) 16 ≡ true) × (((is_between 1 16 (length b.1.0) ≡ true) × (list_all (is_column s) b.1.0 ≡ true)) × ((is_budget b.1.1 ≡ true) × Any b))) (back_at s) (λ b. kinds b.0 ++ (columns b.1.0 ++ budget b.1.1))
+unfolding back_at
+back_codes s few =
+    let parts = chain (λ b. b.0) kinds_codes (λ ks _. chain (λ b. b.1.0) (columns_codes s few) (λ ts _. chain (λ b. b.1.1) budget_codes (λ g _.
+    made (ks, (ts, g)) (((tt, refl), refl), refl) (λ b k i. (k.0.0.1 i, (k.0.1 i, k.1 i)))))) in
+    respelled parts (λ b. ap (λ r. kinds b.0 ++ (columns b.1.0 ++ r)) (append-nil (budget b.1.1)))
+
+regroup_7 : (a b c d e f g : List ℕ) → a ++ (b ++ (c ++ (d ++ ((e ++ (f ++ g)) ++ [])))) ≡ a ++ b ++ c ++ d ++ e ++ f ++ g
 regroup_7 a b c d e f g = simp (append_assoc, append-nil) refl
 
 pub header_codes : (v : Version) → Codes Any (λ h. is_header h ≡ true) (header_at v) (header v)
 unfolding header_at header is_header
 header_codes v =
     let parts = chain (λ (h : Header). h.schema.keys) names_codes (λ keys _. chain (λ h. h.schema.fields) fields_codes (λ fs few. chain times_in times_codes (λ t _. chain settings_in (settings_codes v) (λ s _.
-    chain (λ h. h.kinds) kinds_codes (λ ks _. chain (λ h. h.columns) (columns_codes (schema_of keys fs s) few.0) (λ ts _. chain (λ h. h.budget) budget_codes (λ b _.
+    chain (λ h. (h.kinds, (h.columns, h.budget))) (back_codes (schema_of keys fs s) few.0) (λ b _.
     made
-    (record { schema = schema_of keys fs s; clock = clock_of t s; shape = s.shape; mode = s.mode; early = s.early; late = s.late; form = s.form; kinds = ks; columns = ts; budget = b })
-    (((((((tt, refl), refl), refl), refl), refl), refl), refl)
+    (record { schema = schema_of keys fs s; clock = clock_of t s; shape = s.shape; mode = s.mode; early = s.early; late = s.late; form = s.form; kinds = b.0; columns = b.1.0; budget = b.1.1 })
+    (((((tt, refl), refl), refl), refl), refl)
     (λ h k i. (
-    let s = k.0.0.0.1 i in
-    record { schema = schema_of (k.0.0.0.0.0.0.1 i) (k.0.0.0.0.0.1 i) s; clock = clock_of (k.0.0.0.0.1 i) s; shape = s.shape; mode = s.mode; early = s.early; late = s.late; form = s.form; kinds = k.0.0.1 i; columns = k.0.1 i; budget = k.1 i }
-    ))))))))) in
+    let s = k.0.1 i in
+    let b = k.1 i in
+    record { schema = schema_of (k.0.0.0.0.1 i) (k.0.0.0.1 i) s; clock = clock_of (k.0.0.1 i) s; shape = s.shape; mode = s.mode; early = s.early; late = s.late; form = s.form; kinds = b.0; columns = b.1.0; budget = b.1.1 }
+    ))))))) in
     good_so parts (λ h. regroup_7 (names h.schema.keys) (fields h.schema.fields) (times h.clock) (settings v (settings_in h)) (kinds h.kinds) (columns h.columns) (budget h.budget))
     (λ h _ good. (
     let p = header_parts h good in
     let d = schema_parts h.schema p.schema in
-    (d.keys, ((d.few, d.fields), ((p.start, (p.skew, (p.lateness, (p.records, tt)))), (record { timely = p.timely; sources = d.sources; shape = p.shape; early = p.early; late = p.late; form = p.form }, (p.kinds, ((p.count, p.columns), (p.budget, tt)))))))
+    (d.keys, ((d.few, d.fields), ((p.start, (p.skew, (p.lateness, (p.records, tt)))), (record { timely = p.timely; sources = d.sources; shape = p.shape; early = p.early; late = p.late; form = p.form }, ((p.kinds, ((p.count, p.columns), (p.budget, tt))), tt)))))
     ))
     (λ h _ g. (
     let t = g.1.1.0 in
     let s = g.1.1.1.0 in
-    let row = g.1.1.1.1 in
+    let row = g.1.1.1.1.0 in
     and_from _ _ (schema_made h.schema.keys h.schema.fields (settings_in h) g.0 g.1.0 s.sources)
     (and_from _ _ (and_from _ _ (and_from _ _ t.0 (and_from _ _ t.1.0 (and_from _ _ t.1.1.0 t.1.1.1.0))) s.timely)
     (and_from _ _ (and_from _ _ s.shape (and_from _ _ s.early (and_from _ _ s.late s.form)))
@@ -268,22 +280,31 @@ schema_taken v bytes r1 r2 r3 rest keys fs t s fits e0 e1 e2 e3 =
 
 -- ---- the program
 
+sections_codes : (v : Version) (h : Header) → FewParts h → Codes Any (λ s. IsCode v h s.0 × (IsCode v h s.1.0 × (IsCode v h s.1.1 × Any s))) (sections_at v h) (λ s. code s.0 ++ (code s.1.0 ++ code s.1.1))
+unfolding sections_at
+sections_codes v h few =
+    let one = code_codes v h few in
+    let parts = chain (λ s. s.0) one (λ w _. chain (λ s. s.1.0) one (λ u _. chain (λ s. s.1.1) one (λ f _. made (w, (u, f)) (((tt, refl), refl), refl) (λ s k i. (k.0.0.1 i, (k.0.1 i, k.1 i)))))) in
+    respelled parts (λ s. ap (λ r. code s.0 ++ (code s.1.0 ++ r)) (append-nil (code s.1.1)))
+
 pub parts_codes : (v : Version) → Codes Any (λ p. (is_program p ≡ true) × (spells v p ≡ true)) (parts_at v) (λ p. header v p.header ++ (code p.selection ++ (code p.update ++ code p.fire)))
 unfolding parts_at is_program spells
 parts_codes v =
-    let parts = chain (λ (p : Program). p.header) (header_codes v) (λ h good. chain (λ p. p.selection) (code_codes v h (few_parts h good)) (λ s _. chain (λ p. p.update) (code_codes v h (few_parts h good)) (λ u _.
-    chain (λ p. p.fire) (code_codes v h (few_parts h good)) (λ f _.
-    made (record { header = h; selection = s; update = u; fire = f }) ((((tt, refl), refl), refl), refl) (λ p k i. record { header = k.0.0.0.1 i; selection = k.0.0.1 i; update = k.0.1 i; fire = k.1 i }))))) in
-    good_so parts (λ p. ap (λ b. header v p.header ++ (code p.selection ++ (code p.update ++ b))) (append-nil (code p.fire)))
+    let parts = chain (λ (p : Program). p.header) (header_codes v) (λ h good. chain (λ p. (p.selection, (p.update, p.fire))) (sections_codes v h (few_parts h good)) (λ s _.
+    made (record { header = h; selection = s.0; update = s.1.0; fire = s.1.1 }) ((tt, refl), refl) (λ p k i. (let s = k.1 i in record { header = k.0.1 i; selection = s.0; update = s.1.0; fire = s.1.1 })))) in
+    good_so parts (λ p. ap (λ r. header v p.header ++ r) (append-nil (code p.selection ++ (code p.update ++ code p.fire))))
     (λ p _ g. (
     let a = and_parts (is_header p.header) (is_section p.header p.selection && (is_section p.header p.update && is_section p.header p.fire)) g.0 in
     let b = and_parts (is_section p.header p.selection) (is_section p.header p.update && is_section p.header p.fire) a.1 in
     let c = and_parts (is_section p.header p.update) (is_section p.header p.fire) b.1 in
     let k = and_parts (list_all (has v) p.selection) (list_all (has v) p.update && list_all (has v) p.fire) g.1 in
     let l = and_parts (list_all (has v) p.update) (list_all (has v) p.fire) k.1 in
-    (a.0, ((b.0, k.0), ((c.0, l.0), ((c.1, l.1), tt))))
+    (a.0, (((b.0, k.0), ((c.0, l.0), ((c.1, l.1), tt))), tt))
     ))
-    (λ p _ g. (and_from _ _ g.0 (and_from _ _ g.1.0.0 (and_from _ _ g.1.1.0.0 g.1.1.1.0.0)), and_from _ _ g.1.0.1 (and_from _ _ g.1.1.0.1 g.1.1.1.0.1)))
+    (λ p _ g. (
+    let s = g.1.0 in
+    (and_from _ _ g.0 (and_from _ _ s.0.0 (and_from _ _ s.1.0.0 s.1.1.0.0)), and_from _ _ s.0.1 (and_from _ _ s.1.0.1 s.1.1.0.1))
+    ))
 
 magic_again : (rest : List ℕ) → after_magic (magic ++ rest) ≡ Ok rest
 unfolding after_magic

@@ -7,7 +7,6 @@ pub mod Versions
 pub mod Version1
 pub mod Version2
 pub mod Loop
-pub mod InThree
 pub mod Reader
 pub mod Spelled
 pub mod Lines

@@ -57,6 +57,14 @@ schema_of keys fields s = record { keys = keys; fields = fields; sources = s.sou
 abbrev pub clock_of : Times → Settings → Clock
 clock_of t s = record { start = t.start; skew = t.skew; lateness = t.lateness; from_window = s.from_window; records = t.records }
 
+-- what stands behind its settings: accumulators, columns and budget
+unfoldable pub back_at : Declared → List ℕ → Read (List Kind × (List CellType × Costs))
+back_at s bytes = do
+  kinds ← kinds_at bytes
+  columns ← columns_at s kinds.1
+  budget ← budget_at columns.1
+  Ok ((kinds.0, (columns.0, budget.0)), budget.1)
+
 -- what stands behind the version
 unfoldable pub header_at : Version → List ℕ → Read Header
 header_at v bytes = do
@@ -64,9 +72,7 @@ header_at v bytes = do
   fields ← fields_at keys.1
   times ← times_at fields.1
   settings ← settings_at v times.1
-  kinds ← kinds_at settings.1
-  columns ← columns_at (schema_of keys.0 fields.0 settings.0) kinds.1
-  budget ← budget_at columns.1
+  back ← back_at (schema_of keys.0 fields.0 settings.0) settings.1
   Ok (
     record {
       schema = schema_of keys.0 fields.0 settings.0;
@@ -76,20 +82,12 @@ header_at v bytes = do
       early = settings.0.early;
       late = settings.0.late;
       form = settings.0.form;
-      kinds = kinds.0;
-      columns = columns.0;
-      budget = budget.0;
+      kinds = back.0.0;
+      columns = back.0.1.0;
+      budget = back.0.1.1;
     },
-    budget.1,
+    back.1,
   )
-
--- its accumulators, its columns and its budget, for themselves
-unfoldable pub back_at : Declared → List ℕ → Read (List Kind × (List CellType × Costs))
-back_at s bytes = do
-  kinds ← kinds_at bytes
-  columns ← columns_at s kinds.1
-  budget ← budget_at columns.1
-  Ok ((kinds.0, (columns.0, budget.0)), budget.1)
 
 -- ---- instructions
 
@@ -192,10 +190,8 @@ sections_at v h bytes = do
 unfoldable pub parts_at : Version → List ℕ → Read Program
 parts_at v bytes = do
   h ← header_at v bytes
-  selection ← code_at v h.0 h.1
-  update ← code_at v h.0 selection.1
-  fire ← code_at v h.0 update.1
-  Ok (record { header = h.0; selection = selection.0; update = update.0; fire = fire.0 }, fire.1)
+  sections ← sections_at v h.0 h.1
+  Ok (record { header = h.0; selection = sections.0.0; update = sections.0.1.0; fire = sections.0.1.1 }, sections.1)
 
 unfoldable pub program_at : List ℕ → Read Program
 program_at bytes = do

@@ -23,7 +23,7 @@ use Rattle.wsm_bytecode.specs.Steps.{truth_at, name_at, names_at, interval_at, e
 use Rattle.wsm_bytecode.specs.Version1 as first
 use Rattle.wsm_bytecode.specs.Version2 as second
 use Rattle.wsm_bytecode.specs.Spelling.{header, spelling_in, spelling}
-use Rattle.wsm_bytecode.specs.Reading.{after_magic, version_at, header_at, push_int_at, push_bool_at, push_enum_at, index_at, target_at, comparison_at, number_field_at, field_test_at, test_at, instr_by, instr_at, code_at, parts_at, program_at, decode}
+use Rattle.wsm_bytecode.specs.Reading.{after_magic, version_at, back_at, header_at, push_int_at, push_bool_at, push_enum_at, index_at, target_at, comparison_at, number_field_at, field_test_at, test_at, instr_by, instr_at, code_at, sections_at, parts_at, program_at, decode}
 use Rattle.wsm_program.specs.Opcodes.{of_code}
 use Rattle.wsm_program.specs.Comparisons.{comparison_of_number}
 use Rattle.wsm_program.specs.Text.{Word, Letters, Number}
@@ -203,15 +203,15 @@ faults =
     ∷ []
 
 readings_2_read : map (λ t. (t.0, decode t.0)) readings_2 ≡ readings_2
-unfolding truth_at mode_by form_by kind_by type_by name_at names_at interval_at enum_at type_tag_at field_type_at new_field_at fields_at sources_at times_at fixed_at sliding_at session_at windows_by mode_at triggers_at first.windows_at first.output_at first.settings_at second.windows_at second.form_at second.settings_at kind_at kinds_at enum_number_at enum_column_at column_at columns_at budget_at after_magic version_at header_at push_int_at push_bool_at push_enum_at index_at target_at comparison_at number_field_at field_test_at test_at of_code comparison_of_number instr_by instr_at code_at parts_at program_at decode is_reserved
+unfolding truth_at mode_by form_by kind_by type_by name_at names_at interval_at enum_at type_tag_at field_type_at new_field_at fields_at sources_at times_at fixed_at sliding_at session_at windows_by mode_at triggers_at first.windows_at first.output_at first.settings_at second.windows_at second.form_at second.shown_at second.settings_at kind_at kinds_at enum_number_at enum_column_at column_at columns_at budget_at after_magic version_at back_at header_at push_int_at push_bool_at push_enum_at index_at target_at comparison_at number_field_at field_test_at test_at of_code comparison_of_number instr_by instr_at code_at sections_at parts_at program_at decode is_reserved
 readings_2_read = refl
 
 readings_1_read : map (λ t. (t.0, decode t.0)) readings_1 ≡ readings_1
-unfolding truth_at mode_by form_by kind_by type_by name_at names_at interval_at enum_at type_tag_at field_type_at new_field_at fields_at sources_at times_at fixed_at sliding_at session_at windows_by mode_at triggers_at first.windows_at first.output_at first.settings_at second.windows_at second.form_at second.settings_at kind_at kinds_at enum_number_at enum_column_at column_at columns_at budget_at after_magic version_at header_at push_int_at push_bool_at push_enum_at index_at target_at comparison_at number_field_at field_test_at test_at of_code comparison_of_number instr_by instr_at code_at parts_at program_at decode is_reserved
+unfolding truth_at mode_by form_by kind_by type_by name_at names_at interval_at enum_at type_tag_at field_type_at new_field_at fields_at sources_at times_at fixed_at sliding_at session_at windows_by mode_at triggers_at first.windows_at first.output_at first.settings_at second.windows_at second.form_at second.shown_at second.settings_at kind_at kinds_at enum_number_at enum_column_at column_at columns_at budget_at after_magic version_at back_at header_at push_int_at push_bool_at push_enum_at index_at target_at comparison_at number_field_at field_test_at test_at of_code comparison_of_number instr_by instr_at code_at sections_at parts_at program_at decode is_reserved
 readings_1_read = refl
 
 faults_read : map (λ t. (t.0, decode t.0)) faults ≡ faults
-unfolding truth_at mode_by form_by kind_by type_by name_at names_at interval_at enum_at type_tag_at field_type_at new_field_at fields_at sources_at times_at fixed_at sliding_at session_at windows_by mode_at triggers_at first.windows_at first.output_at first.settings_at second.windows_at second.form_at second.settings_at kind_at kinds_at enum_number_at enum_column_at column_at columns_at budget_at after_magic version_at header_at push_int_at push_bool_at push_enum_at index_at target_at comparison_at number_field_at field_test_at test_at of_code comparison_of_number instr_by instr_at code_at parts_at program_at decode is_reserved
+unfolding truth_at mode_by form_by kind_by type_by name_at names_at interval_at enum_at type_tag_at field_type_at new_field_at fields_at sources_at times_at fixed_at sliding_at session_at windows_by mode_at triggers_at first.windows_at first.output_at first.settings_at second.windows_at second.form_at second.shown_at second.settings_at kind_at kinds_at enum_number_at enum_column_at column_at columns_at budget_at after_magic version_at back_at header_at push_int_at push_bool_at push_enum_at index_at target_at comparison_at number_field_at field_test_at test_at of_code comparison_of_number instr_by instr_at code_at sections_at parts_at program_at decode is_reserved
 faults_read = refl
 
 abbrev is_truncated : Result Program DecodeRefusal → Bool
@@ -224,7 +224,7 @@ beginnings_truncated bytes zero = true
 beginnings_truncated bytes (suc n) = is_truncated (decode (take n bytes)) && beginnings_truncated bytes n
 
 each_beginning : beginnings_truncated base_bytes 141 ≡ true
-unfolding truth_at mode_by form_by kind_by type_by name_at names_at interval_at enum_at type_tag_at field_type_at new_field_at fields_at sources_at times_at fixed_at sliding_at session_at windows_by mode_at triggers_at first.windows_at first.output_at first.settings_at second.windows_at second.form_at second.settings_at kind_at kinds_at enum_number_at enum_column_at column_at columns_at budget_at after_magic version_at header_at push_int_at push_bool_at push_enum_at index_at target_at comparison_at number_field_at field_test_at test_at of_code comparison_of_number instr_by instr_at code_at parts_at program_at decode is_reserved
+unfolding truth_at mode_by form_by kind_by type_by name_at names_at interval_at enum_at type_tag_at field_type_at new_field_at fields_at sources_at times_at fixed_at sliding_at session_at windows_by mode_at triggers_at first.windows_at first.output_at first.settings_at second.windows_at second.form_at second.shown_at second.settings_at kind_at kinds_at enum_number_at enum_column_at column_at columns_at budget_at after_magic version_at back_at header_at push_int_at push_bool_at push_enum_at index_at target_at comparison_at number_field_at field_test_at test_at of_code comparison_of_number instr_by instr_at code_at sections_at parts_at program_at decode is_reserved
 each_beginning = refl
 
 nine_lines : lines base
@@ -302,7 +302,7 @@ tests =
     ∷ []
 
 tests_read : map (λ t. (t.0, decode t.0)) tests ≡ tests
-unfolding truth_at mode_by form_by kind_by type_by name_at names_at interval_at enum_at type_tag_at field_type_at new_field_at fields_at sources_at times_at fixed_at sliding_at session_at windows_by mode_at triggers_at first.windows_at first.output_at first.settings_at second.windows_at second.form_at second.settings_at kind_at kinds_at enum_number_at enum_column_at column_at columns_at budget_at after_magic version_at header_at push_int_at push_bool_at push_enum_at index_at target_at comparison_at number_field_at field_test_at test_at of_code comparison_of_number instr_by instr_at code_at parts_at program_at decode is_reserved
+unfolding truth_at mode_by form_by kind_by type_by name_at names_at interval_at enum_at type_tag_at field_type_at new_field_at fields_at sources_at times_at fixed_at sliding_at session_at windows_by mode_at triggers_at first.windows_at first.output_at first.settings_at second.windows_at second.form_at second.shown_at second.settings_at kind_at kinds_at enum_number_at enum_column_at column_at columns_at budget_at after_magic version_at back_at header_at push_int_at push_bool_at push_enum_at index_at target_at comparison_at number_field_at field_test_at test_at of_code comparison_of_number instr_by instr_at code_at sections_at parts_at program_at decode is_reserved
 tests_read = refl
 
 tested_line : section_lines (codes "where") 0 (take 1 tested.selection)

@@ -42,7 +42,7 @@ form_at m bytes = do
   form ← form_of m tag.0
   Ok (form, tag.1)
 
--- what stands behind the windows, for itself
+-- what stands behind the windows
 unfoldable pub shown_at : List ℕ → Read (Mode × ((ℤ × ℤ) × Form))
 shown_at bytes = do
   mode ← mode_at bytes
@@ -55,10 +55,8 @@ settings_at bytes = do
   from_window ← truth_at bytes
   names ← sources_at is_source_count from_window.1
   windows ← windows_at from_window.0 names.1
-  mode ← mode_at windows.1
-  triggers ← triggers_at mode.1
-  form ← form_at mode.0 triggers.1
+  shown ← shown_at windows.1
   Ok (
-    record { shape = windows.0.0; from_window = windows.0.1; mode = mode.0; early = triggers.0.0; late = triggers.0.1; form = form.0; sources = names.0 },
-    form.1,
+    record { shape = windows.0.0; from_window = windows.0.1; mode = shown.0.0; early = shown.0.1.0.0; late = shown.0.1.0.1; form = shown.0.1.1; sources = names.0 },
+    shown.1,
   )

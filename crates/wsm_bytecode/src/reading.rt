@@ -67,7 +67,7 @@ fn program_of(alloc: Global, bytes: &[u8]) -> Result<(Program, &[u8]), DecodeRef
 }
 
 // What stands behind the version.
-#[tactic(auto, using(crate::proofs::InThree::program_in_parts))]
+#[tactic(auto, unfolding(crate::specs::Reading::parts_at))]
 fn parts_of(
     alloc: Global,
     version: Version,

@@ -27,7 +27,7 @@ struct Back {
 }
 
 /// What stands behind the version and in front of the sections.
-#[tactic(auto, using(crate::proofs::InThree::header_in_parts))]
+#[tactic(auto, unfolding(crate::specs::Reading::header_at))]
 pub(crate) fn header_of(
     alloc: Global,
     version: Version,

@@ -27,7 +27,7 @@ struct Shown {
     form: Form,
 }
 
-#[tactic(auto, using(crate::proofs::InThree::settings_in_parts))]
+#[tactic(auto, unfolding(crate::specs::Version2::settings_at))]
 pub(crate) fn settings_of(alloc: Global, bytes: &[u8]) -> Result<(Settings, &[u8]), DecodeRefusal>
     ensures { Gives (λ x. (settings_seen x.0, x.1.now)) result (settings_at bytes.now) }
 {
