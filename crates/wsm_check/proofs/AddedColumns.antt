@@ -39,8 +39,7 @@ condition_resolved q around want o e a b x y there h same = rw there (record {
 
 -- the last of several checks
 last_of : {A : Type 0} (r : Option CheckRefusal) (answer : Result A CheckRefusal) → Judges answer r → Judges answer (or_else r None)
-last_of None answer h = h
-last_of (Some f) answer h = h
+last_of r answer h = grind arith
 
 abbrev behind_first : List CodeExpr → List CodeExpr
 behind_first exprs = take (length exprs - 1) (drop 1 exprs)

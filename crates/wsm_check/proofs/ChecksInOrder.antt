@@ -1,5 +1,5 @@
 -- Checks one behind the other.
-use Rattle.std.proofs.Common.{◌≡◌, ◌∙◌, ◌≤◌, ◌<◌, ◌+◌, ◌++◌, ◌||◌, ℕ, suc, Bool, true, false, not, nat_lt, List, [], ◌∷◌, length, map, take, drop, get_or, Option, Some, None, Result, ◌⊎◌, inl, inr, bytes_eq, refl, ap, ap₂, sym, arith, add-one, length-append}
+use Rattle.std.proofs.Common.{◌≡◌, ◌∙◌, ◌≤◌, ◌<◌, ◌+◌, ◌++◌, ◌||◌, ℕ, suc, Bool, true, not, nat_lt, List, [], ◌∷◌, length, map, take, drop, get_or, Option, Some, None, Result, ◌⊎◌, inl, inr, bytes_eq, refl, ap, ap₂, sym, arith, add-one, length-append}
 use Rattle.std.proofs.lemmas.Bool.{ltb-true}
 use Rattle.std.proofs.lemmas.Bool.Decides.{nat_tests}
 use Rattle.std.proofs.lemmas.List.{drop_all, length-map, map-append, take_more}
@@ -22,22 +22,18 @@ use Rattle.wsm_check.specs.Names.{field_names}
 use Rattle.wsm_check.specs.Checks.{Judges, or_else, unless, ty_refusal, field_refusal, fields_refusal}
 
 stopped : (r s : Option CheckRefusal) (e : CheckRefusal) → r ≡ Some e → or_else r s ≡ Some e
-stopped None s e h = cc
-stopped (Some f) s e h = h
+stopped r s e h = grind arith
 
 -- a check that refuses
 pub stops : (r s : Option CheckRefusal) (e : CheckRefusal) → (e ≡ Memory) ⊎ (r ≡ Some e) → (e ≡ Memory) ⊎ (or_else r s ≡ Some e)
-stops r s e (inl m) = inl m
-stops r s e (inr h) = inr (stopped r s e h)
+stops r s e h4 = grind arith
 
 -- the checks behind one that passed
 pub goes_on : {A : Type 0} (r s : Option CheckRefusal) (answer : Result A CheckRefusal) → r ≡ None → Judges answer s → Judges answer (or_else r s)
-goes_on None s answer h judged = judged
-goes_on (Some f) s answer h judged = cc
+goes_on r s answer h judged = grind arith
 
 none_behind : (r s : Option CheckRefusal) → r ≡ None → or_else r s ≡ s
-none_behind None s h = refl
-none_behind (Some f) s h = cc
+none_behind r s h = grind arith
 
 pub ruleset steps = (goes_on, stops)
 
@@ -115,12 +111,10 @@ pub all_passed : (fields : List CodeField) (i : ℕ) (kept : List KeptField) →
 all_passed fields i kept end before = before.rest ∙ ap (λ (ds : List CodeField). fields_refusal (names_to i fields) (map declared_field ds)) (drop_all i fields end)
 
 pub passed_unless : (b : Bool) (f : CheckFault) (p : Part) (s : Option CheckRefusal) → or_else (unless b f p) s ≡ None → (b ≡ true) × (s ≡ None)
-passed_unless true f p s h = (refl, h)
-passed_unless false f p s h = cc
+passed_unless b f p s h = grind arith
 
 pub passed_both : (r s : Option CheckRefusal) → or_else r s ≡ None → (r ≡ None) × (s ≡ None)
-passed_both None s h = (refl, h)
-passed_both (Some f) s h = cc
+passed_both r s h = grind arith
 
 -- none, or at most 16
 pub few_sources : (n : ℕ) → is_source_count n ≡ true → n ≤ 1000

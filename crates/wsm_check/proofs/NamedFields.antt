@@ -45,7 +45,6 @@ listed x names r e = search_from (nat_lt (place_of x names) (length names)) refl
     some_is m n h = cc
 
     search_from : (b : Bool) → nat_lt (place_of x names) (length names) ≡ b → (r : Option ℕ) → r ≡ cond b (Some (place_of x names)) None → MatchOption r (is_among x names ≡ false) (λ n. IsListed names x n)
-    search_from true h None e = cc
     search_from true h (Some n) e = record { there = sym (among_is_below x names) ∙ h; place = some_is n (place_of x names) e }
     search_from false h None e = sym (among_is_below x names) ∙ h
-    search_from false h (Some n) e = cc
+    search_from b h r e = cc

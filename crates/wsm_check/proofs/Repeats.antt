@@ -1,5 +1,5 @@
 -- A list repeats a name where one stands among those before it.
-use Rattle.std.proofs.Common.{◌≡◌, ◌∙◌, ◌||◌, ◌++◌, Bool, true, false, List, [], ◌∷◌, bytes_eq, refl, sym, ap, ap₂}
+use Rattle.std.proofs.Common.{◌≡◌, ◌∙◌, ◌||◌, ◌++◌, Bool, true, false, List, [], ◌∷◌, bytes_eq, refl, sym, ap, ap₂, arith}
 use Rattle.std.proofs.lemmas.Slice.Eq.{bytes_eq-Decides}
 use Rattle.std.specs.List.{list_any}
 use Rattle.std.proofs.Math.Bool.{or-false}
@@ -13,15 +13,10 @@ same_either_way x y =
     same_from_decides (bytes_eq x y) (bytes_eq y x) (bytes_eq-Decides x y) (λ e. sym ((bytes_eq-Decides y x).0 e), λ e. (bytes_eq-Decides y x).1 (sym e))
 
 swapped : (a b c d : Bool) → ((a || b) || (c || d)) ≡ ((a || c) || (b || d))
-swapped true b c d = refl
-swapped false true true d = refl
-swapped false true false d = refl
-swapped false false c d = refl
+swapped a b c d = grind arith
 
 grouped : (a b c d : Bool) → (a || ((b || c) || d)) ≡ ((a || b) || (c || d))
-grouped true b c d = refl
-grouped false true c d = refl
-grouped false false c d = refl
+grouped a b c d = grind arith
 
 among_more : (x y : Name) (before : List Name) → is_among y (before ++ x ∷ []) ≡ (is_among y before || bytes_eq x y)
 among_more x y [] = or-false (bytes_eq y x) ∙ same_either_way y x

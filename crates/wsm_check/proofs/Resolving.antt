@@ -1,6 +1,6 @@
 -- What each form of expression says and what it means, by its parts.
-use Rattle.std.proofs.Common.{◌≡◌, ◌∙◌, ◌+◌, ◌<◌, ◌≤◌, ◌⊎◌, ℕ, true, List, [], ◌∷◌, ◌++◌, length, map, Ok, Err, inl, inr, append_assoc, append-nil, refl, sym, ap, ap₂, arith, length-append}
-use Rattle.std.specs.Prelude.{Bool, false, Result, IfOk, is_ok}
+use Rattle.std.proofs.Common.{◌≡◌, ◌∙◌, ◌+◌, ◌<◌, ◌≤◌, ◌⊎◌, ℕ, true, List, [], ◌∷◌, ◌++◌, length, map, Ok, inl, inr, append_assoc, append-nil, refl, sym, ap, ap₂, arith, length-append}
+use Rattle.std.specs.Prelude.{Bool, Result, IfOk, is_ok}
 use Rattle.std.proofs.lemmas.Bool.{and_from}
 use Rattle.std.proofs.lemmas.List.{length-map, map-append}
 use Rattle.wsm_record.specs.declared.words.CellType.{CellType}
@@ -30,9 +30,7 @@ use Rattle.wsm_check.proofs.PassedChecks.{length-accumulators_of}
 
 -- of a part
 pub stops : (p : Part) (x : Typed) (go : CellType → Typed) (r : CheckRefusal) → IsRefused p x r → IsRefused p (if_typed x go) r
-stops p (Ok t) go r (inl m) = inl m
-stops p (Ok t) go r (inr h) = cc
-stops p (Err f) go r h = h
+stops p x go r h5 = grind arith
 
 -- behind a part that has a type
 pub behind : (p : Part) (x : Typed) (t : CellType) (go : CellType → Typed) (r : CheckRefusal) → x ≡ Ok t → IsRefused p (go t) r → IsRefused p (if_typed x go) r
@@ -146,13 +144,11 @@ adds_folding q kind e none b want t x y items more n hw ht hn h hy added number 
 
 pub in_brackets : (q : Query) (around : Around) (e : Expr) (a b : List Folding) (r : Result (CellType × Code) CheckRefusal) → IfOk r (λ t. Resolves q around e a b t.0 (seen_term t.1)) →
     IfOk r (λ t. Resolves q around (Brackets e) a b t.0 (seen_term t.1))
-in_brackets q around e a b (Ok t) h = record { has_type = h.has_type; term = h.term; foldings = h.foldings; spelt = h.spelt }
-in_brackets q around e a b (Err r) h = h
+in_brackets q around e a b r h = grind arith
 
 -- what is wanted holds
 pub holds : (b : Bool) (t u : CellType) → wanted b t ≡ Ok u → b ≡ true
-holds true t u h = refl
-holds false t u h = cc
+holds b t u h = grind arith
 
 -- a term of the type that is wanted
 pub as_wanted : (q : Query) (around : Around) (want given u : CellType) (e : Expr) (a b : List Folding) (x : Term) (same : Bool) → Resolves q around e a b given x → same ≡ is_type given want → wanted same want ≡ Ok u →

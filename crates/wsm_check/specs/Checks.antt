@@ -8,7 +8,8 @@ use Rattle.wsm_windows.specs.Limits.{is_shape, is_size}
 use Rattle.wsm_record.specs.Schema.{FieldType, DeclaredField, is_source_count, is_within}
 use Rattle.wsm_record.specs.Schema as field_types
 use Rattle.wsm_admission.specs.Clock.{is_limited, is_timely}
-use Rattle.wsm_query.specs.Tree.{Name, Budget, Query, Expr}
+use Rattle.wsm_query.specs.declared.query.Budget.{Budget}
+use Rattle.wsm_query.specs.Tree.{Name, Query, Expr}
 use Rattle.wsm_check.specs.declared.refusal.CheckFault.{CheckFault}
 use Rattle.wsm_check.specs.declared.refusal.CheckFault.TheVariants.{Duplicate, Limit, Exceeds, StreamNeedsAccumulating, SessionLateness}
 use Rattle.wsm_check.specs.declared.refusal.CodeLimit.{CodeLimit}
@@ -102,7 +103,7 @@ sizes_refusal p =
     ∷ exceeds Update (counted (foldings_size p.foldings)) MAX_SECTION
     ∷ exceeds Fire (counted (firing_size p.having p.columns)) MAX_SECTION
     ∷ exceeds Stack (counted (need_of p)) MAX_STACK
-    ∷ exceeds Panes (counted (length p.schema.keys * live_bound p.shape p.clock.skew p.clock.lateness)) MAX_PANES
+    ∷ exceeds Panes (counted (length p.schema.keys * live_bound p.output.shape p.clock.skew p.clock.lateness)) MAX_PANES
     ∷ [])
 
 -- of what the query declares
@@ -115,10 +116,10 @@ numbers_refusal q =
     first (
     unless (is_limited q.clock) Limit part.Clock
     ∷ unless (budget_fits q.budget) Limit part.Budget
-    ∷ unless (is_shape q.shape) Limit part.Window
-    ∷ unless (is_timely q.clock.from_window q.shape) SessionLateness part.Window
-    ∷ unless (every_fits q.early && every_fits q.late) Limit part.Trigger
-    ∷ unless (may_write q.mode q.form) StreamNeedsAccumulating part.Emit
+    ∷ unless (is_shape q.output.shape) Limit part.Window
+    ∷ unless (is_timely q.clock.from_window q.output.shape) SessionLateness part.Window
+    ∷ unless (every_fits q.output.early && every_fits q.output.late) Limit part.Trigger
+    ∷ unless (may_write q.output.mode q.output.form) StreamNeedsAccumulating part.Emit
     ∷ [])
 
 -- of its expressions

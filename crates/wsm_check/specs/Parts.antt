@@ -1,12 +1,11 @@
 -- What a checked query has.
-use Rattle.std.specs.Prelude.{ℕ, ◌+◌, List, [], ◌∷◌, map, ℤ, Option, option_map, Ok, Err}
+use Rattle.std.specs.Prelude.{ℕ, ◌+◌, List, [], ◌∷◌, map, Option, option_map, Ok, Err}
 use Rattle.wsm_record.specs.declared.words.Kind.{Kind}
-use Rattle.wsm_record.specs.declared.words.Mode.{Mode}
-use Rattle.wsm_record.specs.declared.words.Form.{Form}
-use Rattle.wsm_windows.specs.declared.window.Shape.{Shape}
 use Rattle.wsm_admission.specs.declared.clock.Clock.{Clock}
 use Rattle.wsm_record.specs.Schema.{Declared}
-use Rattle.wsm_query.specs.Tree.{Budget, Query, Expr}
+use Rattle.wsm_query.specs.declared.query.Budget.{Budget}
+use Rattle.wsm_query.specs.declared.query.Output.{Output}
+use Rattle.wsm_query.specs.Tree.{Query, Expr}
 use Rattle.wsm_record.specs.declared.words.CellType.{CellType}
 use Rattle.wsm_record.specs.declared.words.CellType.TheVariants as types
 use Rattle.wsm_check.specs.Types.{Typed, InColumn, typed}
@@ -23,11 +22,7 @@ pub record Parts : Type 0 where
   pub schema : Declared
   pub clock : Clock
   pub budget : Option Budget
-  pub shape : Shape
-  pub mode : Mode
-  pub early : Option ℤ
-  pub late : Option ℤ
-  pub form : Form
+  pub output : Output
   pub condition : Option Term  -- WHERE
   pub foldings : List Folding
   pub types : List CellType  -- of the columns
@@ -61,11 +56,7 @@ parts_of q = record {
   schema = schema_of q;
   clock = q.clock;
   budget = q.budget;
-  shape = q.shape;
-  mode = q.mode;
-  early = q.early;
-  late = q.late;
-  form = q.form;
+  output = q.output;
   condition = option_map (resolved q 0) q.condition;
   foldings = map (folding q) (accumulators q);
   types = map (column_type q) q.columns;

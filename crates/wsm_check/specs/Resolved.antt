@@ -12,7 +12,7 @@ use Rattle.wsm_check.specs.declared.refusal.CheckRefusal.TheVariants.{Memory}
 use Rattle.wsm_check.specs.declared.expressions.Fired.{Fired}
 use Rattle.wsm_check.specs.declared.expressions.Expressions.{Expressions}
 use Rattle.wsm_check.specs.Types.{Around, Typed, typed, op_ty, logic_ty}
-use Rattle.wsm_check.specs.Aggregates.{accumulators_of, fired, in_option}
+use Rattle.wsm_check.specs.Aggregates.{accumulators_of, in_option}
 use Rattle.wsm_check.specs.Checks.{typed_refusal}
 use Rattle.wsm_check.specs.Spelt.{numbers_fit, NumbersFit}
 use Rattle.wsm_check.specs.Terms.{Term, Binary, And, Or, resolved}

@@ -1,6 +1,5 @@
 -- What the code has of a checked query, without pointers.
 use Rattle.std.specs.Prelude.{map, option_map}
-use Rattle.wsm_query.specs.Seen.{seen_budget}
 use Rattle.wsm_check.specs.declared.term.Term.{Term as Code}
 use Rattle.wsm_check.specs.declared.term.Term.TheVariants as code
 use Rattle.wsm_check.specs.declared.parts.Folding.{Folding as CodeFolding}
@@ -30,12 +29,8 @@ abbrev pub seen_parts : CodeParts → Parts
 seen_parts p = record {
   schema = p.schema;
   clock = p.clock;
-  budget = option_map seen_budget p.budget;
-  shape = p.shape;
-  mode = p.mode;
-  early = p.early;
-  late = p.late;
-  form = p.form;
+  budget = p.budget;
+  output = p.output;
   condition = option_map seen_term p.condition;
   foldings = map seen_folding p.foldings.items;
   types = p.types.items;

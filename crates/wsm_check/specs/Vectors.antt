@@ -42,11 +42,7 @@ base = record {
   columns = Count ∷ Aggregate Sum n ∷ [];
   condition = None;
   having = None;
-  shape = Fixed (pos 60);
-  mode = Accumulating;
-  early = None;
-  late = None;
-  form = Panes;
+  output = record { shape = Fixed (pos 60); mode = Accumulating; early = None; late = None; form = Panes };
 }
 
 abbrev selecting : List Expr → Option CheckRefusal
@@ -195,50 +191,50 @@ no_records = refl
 no_steps : refusal (record base { budget = Some (record { per_record = pos 0; per_pane = pos 1; held = pos 1 }) }) ≡ refused Limit part.Budget
 no_steps = refl
 
-period_past_size : refusal (record base { shape = Sliding (pos 2) (pos 3) }) ≡ refused Limit part.Window
+period_past_size : refusal (record base { output = record base.output { shape = Sliding (pos 2) (pos 3) } }) ≡ refused Limit part.Window
 period_past_size = refl
 
-period_of_size : refusal (record base { shape = Sliding (pos 60) (pos 60) }) ≡ None
+period_of_size : refusal (record base { output = record base.output { shape = Sliding (pos 60) (pos 60) } }) ≡ None
 period_of_size = refl
 
 -- lateness from the end of a window that stands still, or that moves
 fixed_from_window : refusal (record base { clock = record base.clock { from_window = true } }) ≡ None
 fixed_from_window = refl
 
-sliding_from_window : refusal (record base { clock = record base.clock { from_window = true }; shape = Sliding (pos 60) (pos 25) }) ≡ None
+sliding_from_window : refusal (record base { clock = record base.clock { from_window = true }; output = record base.output { shape = Sliding (pos 60) (pos 25) } }) ≡ None
 sliding_from_window = refl
 
-sessions_from_window : refusal (record base { clock = record base.clock { from_window = true }; shape = Session (pos 60) }) ≡ refused SessionLateness part.Window
+sessions_from_window : refusal (record base { clock = record base.clock { from_window = true }; output = record base.output { shape = Session (pos 60) } }) ≡ refused SessionLateness part.Window
 sessions_from_window = refl
 
-sessions_from_event : refusal (record base { shape = Session (pos 60) }) ≡ None
+sessions_from_event : refusal (record base { output = record base.output { shape = Session (pos 60) } }) ≡ None
 sessions_from_event = refl
 
-gap_before_lateness : refusal (record base { clock = record base.clock { from_window = true }; shape = Session (pos 0) }) ≡ refused Limit part.Window
+gap_before_lateness : refusal (record base { clock = record base.clock { from_window = true }; output = record base.output { shape = Session (pos 0) } }) ≡ refused Limit part.Window
 gap_before_lateness = refl
 
-lateness_before_trigger : refusal (record base { clock = record base.clock { from_window = true }; shape = Session (pos 60); early = Some (pos 0) }) ≡ refused SessionLateness part.Window
+lateness_before_trigger : refusal (record base { clock = record base.clock { from_window = true }; output = record base.output { shape = Session (pos 60); early = Some (pos 0) } }) ≡ refused SessionLateness part.Window
 lateness_before_trigger = refl
 
-no_count : refusal (record base { early = Some (pos 0) }) ≡ refused Limit part.Trigger
+no_count : refusal (record base { output = record base.output { early = Some (pos 0) } }) ≡ refused Limit part.Trigger
 no_count = refl
 
-stream_of_discarding : refusal (record base { mode = Discarding; form = Istream }) ≡ refused StreamNeedsAccumulating part.Emit
+stream_of_discarding : refusal (record base { output = record base.output { mode = Discarding; form = Istream } }) ≡ refused StreamNeedsAccumulating part.Emit
 stream_of_discarding = refl
 
-stream_of_discarding_sessions : refusal (record base { shape = Session (pos 60); mode = Discarding; form = Dstream }) ≡ refused StreamNeedsAccumulating part.Emit
+stream_of_discarding_sessions : refusal (record base { output = record base.output { shape = Session (pos 60); mode = Discarding; form = Dstream } }) ≡ refused StreamNeedsAccumulating part.Emit
 stream_of_discarding_sessions = refl
 
-stream_of_retracting : refusal (record base { mode = Retracting; form = Istream }) ≡ refused StreamNeedsAccumulating part.Emit
+stream_of_retracting : refusal (record base { output = record base.output { mode = Retracting; form = Istream } }) ≡ refused StreamNeedsAccumulating part.Emit
 stream_of_retracting = refl
 
-panes_of_retracting : refusal (record base { mode = Retracting }) ≡ None
+panes_of_retracting : refusal (record base { output = record base.output { mode = Retracting } }) ≡ None
 panes_of_retracting = refl
 
-panes_of_discarding : refusal (record base { mode = Discarding }) ≡ None
+panes_of_discarding : refusal (record base { output = record base.output { mode = Discarding } }) ≡ None
 panes_of_discarding = refl
 
-stream_of_sessions : refusal (record base { shape = Session (pos 60); form = Dstream }) ≡ None
+stream_of_sessions : refusal (record base { output = record base.output { shape = Session (pos 60); form = Dstream } }) ≡ None
 stream_of_sessions = refl
 
 no_column : selecting [] ≡ refused Limit (part.Column 1)
@@ -281,5 +277,5 @@ stack_behind_a_column : selecting (one ∷ deep 31 ∷ []) ≡ refused (Exceeds 
 stack_behind_a_column = refl
 
 -- two keys with 1,000,110 live windows each
-too_many_panes : refusal (record base { shape = Sliding (pos 1000000) (pos 1) }) ≡ refused (Exceeds limit.Panes 2000220 100000) part.Code
+too_many_panes : refusal (record base { output = record base.output { shape = Sliding (pos 1000000) (pos 1) } }) ≡ refused (Exceeds limit.Panes 2000220 100000) part.Code
 too_many_panes = refl

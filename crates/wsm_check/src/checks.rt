@@ -62,7 +62,7 @@ fn judge_rest(alloc: Global, schema: &Schema, query: &Query) -> Result<Expressio
     ensures judged { Judges result (rest_refusal (seen query.now)) }
     ensures resolved { IfOk result (λ r. AreResolved (seen query.now) r) }
     ensures clock { OnOk result (is_limited query.now.clock ≡ true) }
-    ensures shape { OnOk result (is_shape query.now.shape ≡ true) }
+    ensures shape { OnOk result (is_shape query.now.output.shape ≡ true) }
 {
     judge_numbers(query)?;
     let expressions = resolve_expressions(alloc, schema, query)?;

@@ -30,7 +30,7 @@ pub fn within(limit: CodeLimit, counted: u64, allowed: u64) -> Result<(), CheckR
 /// That a program may have the code, and hold the panes.
 #[tactic(auto, using(crate::proofs::ChecksInOrder::steps))]
 pub fn judge_sizes(parts: &Parts) -> Result<(), CheckRefusal>
-    requires shape { is_shape parts.now.shape ≡ true }
+    requires shape { is_shape parts.now.output.shape ≡ true }
     requires skew { is_span parts.now.clock.skew ≡ true }
     requires lateness { is_span parts.now.clock.lateness ≡ true }
     ensures { Judges result (sizes_refusal (seen_parts parts.now)) }
@@ -116,11 +116,11 @@ fn stack_need(parts: &Parts) -> u64
 
 // The most panes that are live at once.
 fn panes_at_once(parts: &Parts) -> u64
-    requires shape { is_shape parts.now.shape ≡ true }
+    requires shape { is_shape parts.now.output.shape ≡ true }
     requires skew { is_span parts.now.clock.skew ≡ true }
     requires lateness { is_span parts.now.clock.lateness ≡ true }
-    ensures { let p = seen_parts parts.now in result ≡ counted (length p.schema.keys * life.live_bound p.shape p.clock.skew p.clock.lateness) }
+    ensures { let p = seen_parts parts.now in result ≡ counted (length p.schema.keys * life.live_bound p.output.shape p.clock.skew p.clock.lateness) }
 {
-    let live = live_bound(parts.shape, parts.clock.skew, parts.clock.lateness);
+    let live = live_bound(parts.output.shape, parts.clock.skew, parts.clock.lateness);
     (parts.schema.keys().len() as u64).saturating_mul(live)
 }

@@ -128,18 +128,18 @@ fn judge_sources(alloc: Global, sources: &[Name]) -> Result<Names, CheckRefusal>
 pub fn judge_numbers(query: &Query) -> Result<(), CheckRefusal>
     ensures judged { Judges result (numbers_refusal (seen query.now)) }
     ensures clock { OnOk result (is_limited query.now.clock ≡ true) }
-    ensures shape { OnOk result (is_shape query.now.shape ≡ true) }
+    ensures shape { OnOk result (is_shape query.now.output.shape ≡ true) }
 {
     let clock_fits = query.clock.is_within_limits();
     want(clock_fits, CheckFault::Limit, Part::Clock)?;
     want(budget_fits(query.budget), CheckFault::Limit, Part::Budget)?;
-    let shape_fits = query.shape.is_within_limits();
+    let shape_fits = query.output.shape.is_within_limits();
     want(shape_fits, CheckFault::Limit, Part::Window)?;
-    let ends_stand = query.clock.is_timely(query.shape);
+    let ends_stand = query.clock.is_timely(query.output.shape);
     want(ends_stand, CheckFault::SessionLateness, Part::Window)?;
-    let counts_fit = every_fits(query.early) && every_fits(query.late);
+    let counts_fit = every_fits(query.output.early) && every_fits(query.output.late);
     want(counts_fit, CheckFault::Limit, Part::Trigger)?;
-    let may_be_written = query.mode.may_write(query.form);
+    let may_be_written = query.output.mode.may_write(query.output.form);
     want(
         may_be_written,
         CheckFault::StreamNeedsAccumulating,

@@ -1,8 +1,7 @@
 //! The ranges of the numbers of a query.
 
-ghost use Rattle.std.specs.Prelude.{◌≡◌, option_map};
+ghost use Rattle.std.specs.Prelude.{◌≡◌};
 ghost use Rattle.wsm_record.specs.Schema.{is_within};
-ghost use Rattle.wsm_query.specs.Seen.{seen_budget};
 ghost use Rattle.wsm_check.specs.Checks.{budget_fits, every_fits, is_cost};
 
 use wsm_query::Budget;
@@ -16,7 +15,7 @@ const MAX_HELD: i64 = MAX_PANES as i64;
 
 /// Whether the numbers of BUDGET are in range.
 pub fn budget_fits(budget: Option<Budget>) -> bool
-    ensures { result ≡ budget_fits (option_map seen_budget budget) }
+    ensures { result ≡ budget_fits budget }
 {
     match budget {
         None => true,

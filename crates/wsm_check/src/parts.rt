@@ -2,9 +2,8 @@
 
 use crate::term::Term;
 use wsm_admission::Clock;
-use wsm_query::Budget;
-use wsm_record::{CellType, Form, Kind, Mode, Schema};
-use wsm_windows::Shape;
+use wsm_query::{Budget, Output};
+use wsm_record::{CellType, Kind, Schema};
 
 /// What an accumulator folds.
 #[derive(Drop)]
@@ -25,16 +24,8 @@ pub struct Parts {
     pub clock: Clock,
     /// What BUDGET states; without it the program states its need.
     pub budget: Option<Budget>,
-    /// How records are put into windows.
-    pub shape: Shape,
-    /// What a firing's columns are computed over.
-    pub mode: Mode,
-    /// After how many unshown records a pane fires early.
-    pub early: Option<i64>,
-    /// After how many unshown records a pane fires late.
-    pub late: Option<i64>,
-    /// What is written.
-    pub form: Form,
+    /// The windows, when they fire, and what is written of them.
+    pub output: Output,
     /// WHERE: which records are selected.
     pub condition: Option<Term>,
     /// The accumulators by their numbers: those of the columns, then those of HAVING.

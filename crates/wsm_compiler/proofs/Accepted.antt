@@ -1,28 +1,25 @@
 -- A checked query's program is accepted exactly where its ranges fit and it states enough.
 use Rattle.std.proofs.Common.{◌≡◌, ℕ, Bool, true, false, ◌&&◌, ◌||◌, not, cond, List, [], ◌∷◌, ◌++◌, Option, Some, None, refl, sym, ap, ◌∙◌, arith}
 use Rattle.std.specs.Prelude.{is_some, is_none, is_ok, option_map, nat_lt, nat_le}
-use Rattle.std.specs.List.{list_all, flat_map}
+use Rattle.std.specs.List.{flat_map}
 use Rattle.std.proofs.lemmas.Bool.{and_from, and_parts}
-use Rattle.std.proofs.Math.Bool.{and-true, and_assoc}
+use Rattle.std.proofs.lemmas.List.Folds.{list_all-append}
+use Rattle.std.proofs.Math.Bool.{and-true}
 use Rattle.wsm_program.specs.declared.SectionId.TheVariants.{Where, Update, Fire}
 use Rattle.wsm_program.specs.declared.program.Costs.{Costs}
 use Rattle.wsm_interval.specs.declared.interval.Interval.{Interval}
-use Rattle.wsm_interval.specs.Interval.{add, sub, mul, div, rem}
 use Rattle.wsm_query.specs.declared.expr.Op.{Op}
-use Rattle.wsm_query.specs.declared.expr.Op.TheVariants.{Add, Sub, Mul, Div, Rem, Eq, Ne, Lt, Le, Gt, Ge}
 use Rattle.wsm_query.specs.Tree.{Query, Expr, Aggregate, If, Brackets, Minus, Not, Binary, And, Or}
 use Rattle.wsm_record.specs.Schema.{DeclaredField}
 use Rattle.wsm_compiler.specs.Code.{test_of}
 use Rattle.wsm_check.specs.Aggregates.{Acc, accumulators, accumulators_of, in_option, fired}
 use Rattle.wsm_rules.specs.declared.rejection.Rejection.{Rejection}
 use Rattle.wsm_rules.specs.declared.rejection.Rule.{Rule}
-use Rattle.wsm_rules.specs.declared.rejection.Rule.TheVariants.{BudgetRecord, BudgetPane, BudgetHeld}
-use Rattle.wsm_rules.specs.declared.rejection.Part.TheVariants as part
 use Rattle.wsm_rules.specs.Costs.{needed}
 use Rattle.wsm_rules.specs.Rules.{or_then, fault_in, ranges_of_record, ranges_of_pane, update_visits, code_fault, budget_fault, fault, unless}
-use Rattle.wsm_compiler.specs.Ranges.{Range, Unfit, NoNumber, Within, no_number, on_intervals, of_op, of_minus, of_branches, if_fits, of_aggregate, range, fits, ranges_fit, range_on, where_true, where_false}
+use Rattle.wsm_compiler.specs.Ranges.{Range, no_number, on_intervals, of_op, of_minus, of_branches, if_fits, of_aggregate, range, fits, ranges_fit, range_on, where_true, where_false}
 use Rattle.wsm_compiler.specs.Program.{program_stating, stated, needed_of, program_of}
-use Rattle.wsm_compiler.specs.Accepted.{states_enough, FaultlessExactly, AcceptedExactly, AcceptedWithoutBudget}
+use Rattle.wsm_compiler.specs.Accepted.{FaultlessExactly, AcceptedExactly, AcceptedWithoutBudget}
 use Rattle.wsm_machine.proofs.FittingStacks.{no}
 use Rattle.wsm_compiler.proofs.Conditions.{condition_fits, columns_fit, where_faults}
 use Rattle.wsm_compiler.proofs.UpdateFaults.{acc_fits, accs_fit, update_faults}
@@ -33,58 +30,22 @@ use Rattle.wsm_compiler.proofs.Visits.{some_or}
 -- ---- where a range fits, so do those of its parts
 
 two_fit : (r p : Range) → fits (no_number r p) ≡ true → (fits r ≡ true) × (fits p ≡ true)
-two_fit Unfit p h = no h
-two_fit NoNumber Unfit h = no h
-two_fit NoNumber NoNumber h = (refl, refl)
-two_fit NoNumber (Within y) h = (refl, refl)
-two_fit (Within x) Unfit h = no h
-two_fit (Within x) NoNumber h = (refl, refl)
-two_fit (Within x) (Within y) h = (refl, refl)
+two_fit r p h = grind arith
 
 intervals_fit : (f : Interval → Interval → Option Interval) (r p : Range) → fits (on_intervals f r p) ≡ true → (fits r ≡ true) × (fits p ≡ true)
-intervals_fit f Unfit p h = no h
-intervals_fit f NoNumber Unfit h = no h
-intervals_fit f NoNumber NoNumber h = (refl, refl)
-intervals_fit f NoNumber (Within y) h = (refl, refl)
-intervals_fit f (Within x) Unfit h = no h
-intervals_fit f (Within x) NoNumber h = (refl, refl)
-intervals_fit f (Within x) (Within y) h = (refl, refl)
+intervals_fit f r p h = grind arith
 
 op_fit : (op : Op) (r p : Range) → fits (of_op op r p) ≡ true → (fits r ≡ true) × (fits p ≡ true)
-op_fit Add r p h = intervals_fit add r p h
-op_fit Sub r p h = intervals_fit sub r p h
-op_fit Mul r p h = intervals_fit mul r p h
-op_fit Div r p h = intervals_fit div r p h
-op_fit Rem r p h = intervals_fit rem r p h
-op_fit Eq r p h = two_fit r p h
-op_fit Ne r p h = two_fit r p h
-op_fit Lt r p h = two_fit r p h
-op_fit Le r p h = two_fit r p h
-op_fit Gt r p h = two_fit r p h
-op_fit Ge r p h = two_fit r p h
+op_fit op r p h = grind (arith, intervals_fit, two_fit)
 
 minus_fit : (r : Range) → fits (of_minus r) ≡ true → fits r ≡ true
-minus_fit Unfit h = h
-minus_fit NoNumber h = refl
-minus_fit (Within x) h = refl
+minus_fit r h = grind arith
 
 branches_fit : (r p : Range) → fits (of_branches r p) ≡ true → (fits r ≡ true) × (fits p ≡ true)
-branches_fit Unfit p h = no h
-branches_fit NoNumber Unfit h = no h
-branches_fit NoNumber NoNumber h = (refl, refl)
-branches_fit NoNumber (Within y) h = (refl, refl)
-branches_fit (Within x) Unfit h = no h
-branches_fit (Within x) NoNumber h = (refl, refl)
-branches_fit (Within x) (Within y) h = (refl, refl)
+branches_fit r p h = grind arith
 
 test_fits : (b r : Range) → fits (if_fits b r) ≡ true → (fits b ≡ true) × (fits r ≡ true)
-test_fits Unfit r h = no h
-test_fits NoNumber r h = (refl, h)
-test_fits (Within x) r h = (refl, h)
-
-list_all-append : {A : Type 0} (f : A → Bool) (xs ys : List A) → list_all f (xs ++ ys) ≡ (list_all f xs && list_all f ys)
-list_all-append f [] ys = refl
-list_all-append f (x ∷ xs) ys = ap (λ b. f x && b) (list_all-append f xs ys) ∙ sym (and_assoc (f x) (list_all f xs) (list_all f ys))
+test_fits b r h = grind arith
 
 module _ (q : Query) (b : Costs) where
   fit_both : (xs ys : List Acc) → accs_fit q b xs ≡ true → accs_fit q b ys ≡ true → accs_fit q b (xs ++ ys) ≡ true
@@ -119,8 +80,7 @@ module _ (q : Query) (b : Costs) where
       fit_both (accumulators_of e) (flat_map accumulators_of es) (accs_of_fit q.fields e p.0) (accs_of_all es p.1)
 
   option_fits : (o : Option Expr) → columns_fit q (in_option o) ≡ condition_fits q o
-  option_fits None = refl
-  option_fits (Some e) = and-true (fits (range q e))
+  option_fits o = grind (arith, and-true)
 
   pub fired_fit : columns_fit q (fired q) ≡ (columns_fit q q.columns && condition_fits q q.having)
   fired_fit = list_all-append (λ e. fits (range q e)) q.columns (in_option q.having) ∙ ap (λ v. columns_fit q q.columns && v) (option_fits q.having)
@@ -131,8 +91,7 @@ module _ (q : Query) (b : Costs) where
   -- ---- the three sections
 
   not_both : (x y : Bool) → (not x || not y) ≡ not (x && y)
-  not_both true y = refl
-  not_both false y = refl
+  not_both x y = grind arith
 
   abbrev where_fault : Option Rejection
   where_fault = let p = program_stating q b in fault_in p Where (ranges_of_record p)
@@ -160,12 +119,10 @@ module _ (q : Query) (b : Costs) where
 -- ---- the numbers that are stated
 
 none_is : (o : Option Rejection) → is_none o ≡ not (is_some o)
-none_is None = refl
-none_is (Some r) = refl
+none_is o = grind arith
 
 not_not : (b : Bool) → not (not b) ≡ b
-not_not true = refl
-not_not false = refl
+not_not b = grind arith
 
 not_above : (a b : ℕ) → nat_le b a ≡ true → nat_lt a b ≡ false
 not_above a b h = grind arith
@@ -177,23 +134,16 @@ not_below : (a b : ℕ) → not (nat_lt a b) ≡ nat_le b a
 not_below a b = elim (nat_le b a) as (λ x. nat_le b a ≡ x → not (nat_lt a b) ≡ x) [ true ↦ λ h. ap not (not_above a b h) | false ↦ λ h. ap not (above a b h) ] refl
 
 first_of_three : (x y z : Bool) (r1 r2 r3 : Rule) (f : Rule → Rejection) → is_none (option_map f (cond x (Some r1) (cond y (Some r2) (cond z (Some r3) None)))) ≡ (not x && (not y && not z))
-first_of_three true y z r1 r2 r3 f = refl
-first_of_three false true z r1 r2 r3 f = refl
-first_of_three false false true r1 r2 r3 f = refl
-first_of_three false false false r1 r2 r3 f = refl
+first_of_three x y z r1 r2 r3 f = grind arith
 
 stated_enough : (s : Costs) (n : Costs) → is_none (budget_fault s n) ≡ (nat_le n.per_record s.per_record && (nat_le n.per_pane s.per_pane && nat_le n.held s.held))
-stated_enough s n =
-    first_of_three (nat_lt s.per_record n.per_record) (nat_lt s.per_pane n.per_pane) (nat_lt s.held n.held) BudgetRecord BudgetPane BudgetHeld (λ r. record { part = part.Budget; place = 0; rule = r })
-    ∙ (λ i. not_below s.per_record n.per_record i && (not_below s.per_pane n.per_pane i && not_below s.held n.held i))
+stated_enough s n = grind (arith, not_below)
 
 none_both : (a b : Option Rejection) → is_none (or_then a b) ≡ (is_none a && is_none b)
-none_both None b = refl
-none_both (Some r) b = refl
+none_both a b = grind arith
 
 ok_is_none : (n : Costs) (o : Option Rejection) → is_ok (unless n o) ≡ is_none o
-ok_is_none n None = refl
-ok_is_none n (Some r) = refl
+ok_is_none n o = grind arith
 
 pub faultless_exactly : (q : Query) → FaultlessExactly q
 faultless_exactly q h =
@@ -211,8 +161,4 @@ at_most_itself : (n : ℕ) → nat_le n n ≡ true
 at_most_itself n = grind arith
 
 pub accepted_without_budget : (q : Query) → AcceptedWithoutBudget q
-accepted_without_budget q h e =
-    let n = needed_of q in
-    let enough : states_enough (program_of q) ≡ true =
-    ap (λ b. states_enough (program_stating q (stated n b))) e ∙ (λ i. at_most_itself n.per_record i && (at_most_itself n.per_pane i && at_most_itself n.held i)) in
-    accepted_exactly q h ∙ ap (λ b. ranges_fit q && b) enough ∙ and-true (ranges_fit q)
+accepted_without_budget q h e = grind (arith, at_most_itself, accepted_exactly, and-true)

@@ -112,13 +112,11 @@ module _ (q : Query) (key : ℕ) (records : List (List Value)) (accs : List Valu
   bounds_same a e h = let s = same a e h in (λ i. cond (list_all is_i64 (s.1 i)) (s.0 i) None)
 
   condition_same : (a : ℕ) (o : Option Expr) → Hold q key records accs a (in_condition o) → condition_value q pane a o ≡ condition_value q all a o
-  condition_same a None h = refl
-  condition_same a (Some e) h = bounds_same a e h
+  condition_same a o h = grind (arith, bounds_same)
 
   -- by the value of a column
   by_value : (o : Option Value) (f g : Value → Option (List Cell)) → ((v : Value) → f v ≡ g v) → elim o as (λ x. Option (List Cell)) [ None ↦ None | Some v ↦ f v ] ≡ elim o as (λ x. Option (List Cell)) [ None ↦ None | Some v ↦ g v ]
-  by_value None f g h = refl
-  by_value (Some v) f g h = h v
+  by_value o f g h = grind arith
 
   pub stack_same : (a : ℕ) (es : List Expr) (stack : List Cell) → Hold q key records accs a (flat_map accumulators_of es ++ in_condition q.having) → fired_stack q pane a es stack ≡ fired_stack q all a es stack
   stack_same a [] stack h = ap (on_stack stack) (condition_same a q.having h)

@@ -1,11 +1,11 @@
 -- What code computes is the meaning where every number met has 64 bits.
-use Rattle.std.proofs.Common.{◌≡◌, ℕ, ◌+◌, Bool, true, false, ◌&&◌, cond, List, [], ◌∷◌, ◌++◌, ℤ, Option, Some, None, refl, sym, ap, ◌∙◌}
+use Rattle.std.proofs.Common.{◌≡◌, ℕ, ◌+◌, Bool, true, false, ◌&&◌, cond, List, [], ◌∷◌, ◌++◌, ℤ, Option, Some, None, refl, sym, ap, ◌∙◌, arith}
 use Rattle.std.specs.List.{list_all}
 use Rattle.std.proofs.Math.Bool.{and_assoc}
 use Rattle.wsm_record.specs.declared.event.Value.{Value}
-use Rattle.wsm_record.specs.declared.event.Value.TheVariants.{Int, Bool as Truth', Enum}
+use Rattle.wsm_record.specs.declared.event.Value.TheVariants.{Bool as Truth'}
 use Rattle.wsm_record.specs.Schema.{is_i64}
-use Rattle.wsm_query.specs.Tree.{Query, Expr, Number, Truth, Field, EnumName, Key, KeyName, Count, Aggregate, If, Brackets, Minus, Not, Binary, And, Or}
+use Rattle.wsm_query.specs.Tree.{Query, Expr, Number, Field, Count, Aggregate, If, Brackets, Minus, Not, Binary, And, Or}
 use Rattle.wsm_check.specs.Aggregates.{aggregates}
 use Rattle.wsm_compiler.specs.Meaning.{Scene, meaning_from, met_from, on_two, both, minus, negated, chosen, chosen_numbers, number_of}
 use Rattle.wsm_compiler.specs.Bounded.{kept, IsBounded}
@@ -22,40 +22,26 @@ fit-append [] ns = refl
 fit-append (m ∷ ms) ns = ap (λ b. is_i64 m && b) (fit-append ms ns) ∙ sym (and_assoc (is_i64 m) (fit ms) (fit ns))
 
 given_and_true : (b : Bool) (v : Option Value) → given (b && true) v ≡ given b v
-given_and_true true v = refl
-given_and_true false v = refl
+given_and_true b v = grind arith
 
 -- a value alone
 kept_is : (v : Option Value) → kept v ≡ given (fit (number_of v)) v
-kept_is None = refl
-kept_is (Some (Int n)) = sym (given_and_true (is_i64 n) (Some (Int n)))
-kept_is (Some (Truth' b)) = refl
-kept_is (Some (Enum i)) = refl
+kept_is v = grind (arith, given_and_true)
 
 minus_is : (b : Bool) (v : Option Value) → kept (minus (given b v)) ≡ given (b && fit (number_of (minus v))) (minus v)
-minus_is true v = kept_is (minus v)
-minus_is false v = refl
+minus_is b v = grind (arith, kept_is)
 
 negated_is : (b : Bool) (v : Option Value) → negated (given b v) ≡ given b (negated v)
-negated_is true v = refl
-negated_is false v = refl
+negated_is b v = grind arith
 
 both_none : (f : Value → Value → Option Value) (v : Option Value) → both f v None ≡ None
-both_none f None = refl
-both_none f (Some x) = refl
+both_none f v = grind arith
 
 both_is : (f : Value → Value → Option Value) (b c : Bool) (v w : Option Value) → kept (both f (given b v) (given c w)) ≡ given (b && (c && fit (number_of (both f v w)))) (both f v w)
-both_is f true true v w = kept_is (both f v w)
-both_is f true false v w = ap kept (both_none f v)
-both_is f false c v w = refl
+both_is f b c v w = grind (arith, kept_is, both_none)
 
 chosen_is : (b : Bool) (v x y : Option Value) (ms ns : List ℤ) → chosen (given b v) (given (fit ms) x) (given (fit ns) y) ≡ given (b && fit (chosen_numbers v ms ns)) (chosen v x y)
-chosen_is false v x y ms ns = refl
-chosen_is true None x y ms ns = refl
-chosen_is true (Some (Int n)) x y ms ns = refl
-chosen_is true (Some (Truth' true)) x y ms ns = refl
-chosen_is true (Some (Truth' false)) x y ms ns = refl
-chosen_is true (Some (Enum i)) x y ms ns = refl
+chosen_is b v x y ms ns = grind arith
 
 -- the joined numbers fit where both parts do
 joined : (ms ns : List ℤ) (v : Option Value) → given (fit ms && fit ns) v ≡ given (fit (ms ++ ns)) v
@@ -66,11 +52,7 @@ joined_thrice ls ms ns v = ap (λ b. given (fit ls && b) v) (sym (fit-append ms 
 
 pub bounded_is : (q : Query) (s : Scene) (a : ℕ) (e : Expr) → IsBounded q s a e
 bounded_is q s a (Number n) = kept_is (meaning_from q s a (Number n))
-bounded_is q s a (Truth b) = refl
 bounded_is q s a (Field x) = kept_is (meaning_from q s a (Field x))
-bounded_is q s a (EnumName x y) = refl
-bounded_is q s a Key = refl
-bounded_is q s a (KeyName x) = refl
 bounded_is q s a Count = kept_is (meaning_from q s a Count)
 bounded_is q s a (Aggregate kind e) = kept_is (meaning_from q s a (Aggregate kind e))
 bounded_is q s a (If c x y) =
@@ -101,3 +83,4 @@ bounded_is q s a (Or x y) =
     (λ i. chosen (bounded_is q s a x i) (Some (Truth' true)) (bounded_is q s b y i))
     ∙ chosen_is (fit (met_from q s a x)) (meaning_from q s a x) (Some (Truth' true)) (meaning_from q s b y) [] (met_from q s b y)
     ∙ joined (met_from q s a x) (chosen_numbers (meaning_from q s a x) [] (met_from q s b y)) (meaning_from q s a (Or x y))
+bounded_is q s a e = refl

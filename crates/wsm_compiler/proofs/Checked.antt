@@ -1,5 +1,5 @@
 -- What holds of a query that no check refuses.
-use Rattle.std.proofs.Common.{◌≡◌, ℕ, suc, ◌≤◌, List, [], ◌∷◌, ◌++◌, Option, Some, None, Ok, Err, refl, sym, ap, arith}
+use Rattle.std.proofs.Common.{◌≡◌, ℕ, suc, ◌≤◌, List, [], ◌∷◌, ◌++◌, Option, None, Ok, arith}
 use Rattle.std.specs.Prelude.{max}
 use Rattle.std.specs.List.{flat_map}
 use Rattle.wsm_program.specs.declared.program.Costs.{Costs}
@@ -12,11 +12,10 @@ use Rattle.wsm_compiler.proofs.QueryTerms.{condition_need, folds_need, columns_n
 use Rattle.wsm_record.specs.declared.words.CellType.{CellType}
 use Rattle.wsm_record.specs.declared.words.CellType.TheVariants as types
 use Rattle.wsm_record.specs.Types.{is_type, kind_type}
-use Rattle.wsm_check.specs.Types.{Typed, wanted, if_typed, op_ty, typed, typed_condition}
+use Rattle.wsm_check.specs.Types.{Typed, wanted, if_typed, op_ty, typed}
 use Rattle.wsm_check.specs.declared.types.Around.{Around}
 use Rattle.wsm_check.specs.declared.types.Around.TheVariants.{InWhere, InColumn, InAggregate}
 use Rattle.wsm_check.specs.Checks.{first, typed_refusal, condition_refusal, columns_refusal, IsChecked}
-use Rattle.wsm_machine.proofs.FittingStacks.{no}
 use Rattle.wsm_compiler.proofs.Passed.{is_refusal, passed}
 use Rattle.wsm_compiler.proofs.ExpressionRanges.{entered_is, unary_is, two_types, if_types, logic_types}
 use Rattle.wsm_compiler.proofs.Conditions.{ConditionTyped, ColumnsTyped}
@@ -24,12 +23,10 @@ use Rattle.wsm_compiler.proofs.UpdateFaults.{AccsTyped}
 use Rattle.wsm_check.proofs.ChecksInOrder.{passed_both}
 
 typed_none : (p : Part) (x : Typed) → typed_refusal p x ≡ None → (t : CellType) × (x ≡ Ok t)
-typed_none p (Ok t) h = (t, refl)
-typed_none p (Err f) h = no (sym (ap is_refusal h))
+typed_none p x h = grind (arith, is_refusal)
 
 condition_typed : (q : Query) (around : Around) (p : Part) (o : Option Expr) → condition_refusal q around p o ≡ None → ConditionTyped q around o
-condition_typed q around p None h = tt
-condition_typed q around p (Some e) h = let t = typed_none p (typed_condition q around e) h in (unary_is q around e types.Bool t.0 t.1).0
+condition_typed q around p o h = grind (arith, typed_none, unary_is)
 
 columns_typed : (q : Query) (i : ℕ) (es : List Expr) → columns_refusal q i es ≡ None → ColumnsTyped q es
 columns_typed q i [] h = tt
@@ -72,8 +69,7 @@ module _ (q : Query) (b : Costs) where
   of_columns (e ∷ es) rest h l = accs_both (accumulators_of e) (flat_map accumulators_of (es ++ rest)) (accs_typed InColumn e h.0.0 h.0.1) (of_columns es rest h.1 l)
 
   of_having : (o : Option Expr) → ConditionTyped q InColumn o → AccsTyped q b (flat_map accumulators_of (in_option o))
-  of_having None h = tt
-  of_having (Some e) h = accs_both (accumulators_of e) [] (accs_typed InColumn e types.Bool h) tt
+  of_having o h = grind (arith, accs_both, accs_typed)
 
   -- ---- a checked query
 

@@ -3,41 +3,35 @@ use Rattle.std.proofs.Common.{◌≡◌, ℕ, suc, ◌+◌, ◌≤◌, ◌<◌, 
 use Rattle.std.specs.Prelude.{is_some, nat_eq, nat_lt}
 use Rattle.std.specs.List.{cons_option}
 use Rattle.std.proofs.lemmas.Bool.{and_from, lt-ltb, eq-eqb, or_right}
-use Rattle.std.proofs.Math.Bool.{and-false}
+use Rattle.std.proofs.Math.Bool.{and-false, or-true}
 use Rattle.wsm_program.specs.declared.FieldTest.{FieldTest}
 use Rattle.wsm_program.specs.declared.Instr.{Instr}
 use Rattle.wsm_program.specs.declared.Instr.TheVariants.{Jump, JumpIfFalse, Test}
 use Rattle.wsm_program.specs.declared.SectionId.{SectionId}
-use Rattle.wsm_program.specs.declared.SectionId.TheVariants.{Where, Update, Fire}
 use Rattle.wsm_rules.specs.declared.known.Known.{Known}
 use Rattle.wsm_rules.specs.declared.known.Known.TheVariants.{Truth}
 use Rattle.wsm_rules.specs.Labels.{State, Label, Unreached, Reached, Visit, same_type, same_types, hull_known, hull_lists, agree, hull_states, hull_all, narrowed, along, carried_to, visit, visit_of}
 use Rattle.wsm_program.specs.Instructions.{may_stand, opposite_test, is_later}
 use Rattle.wsm_rules.specs.Rules.{Setting, fold_missing, fault_of}
 use Rattle.wsm_compiler.specs.TermCode.{choice}
-use Rattle.wsm_compiler.proofs.Visits.{extended, added, extended_is, added_append, carries, carries_append, faults, faults_append, or_true}
+use Rattle.wsm_compiler.proofs.Visits.{extended, added, extended_is, added_append, carries, carries_append, faults, faults_append}
 use Rattle.wsm_compiler.proofs.Hulls.{stack_self, types_self, flags_self, agreeing, hull_with}
-use Rattle.wsm_compiler.proofs.Parts.{none≢some, Comes, Labels, Labelled, shorter, continued, visit_is, fault_is}
+use Rattle.wsm_compiler.proofs.Parts.{Comes, Labels, Labelled, shorter, continued, visit_is, fault_is}
 use Rattle.wsm_compiler.proofs.Tests.{tested, not_last, with_known, pushed_on}
 use Rattle.wsm_semantics.proofs.MergedRecords.{unlike}
 
 -- what is known behind two parts of which one is run; the second stands later
 abbrev pub hulled : Option Known → Option Known → Option Known
 hulled (Some a) (Some b) = Some (hull_known b a)
-hulled (Some a) None = None
-hulled None b = None
+hulled x b = None
 
 -- ---- the two jumps have no fault
 
 missing_at_test : (id : SectionId) (t : ℕ) (fs : List Bool) → fold_missing id (JumpIfFalse t) fs ≡ false
-missing_at_test Where t fs = refl
-missing_at_test Update t fs = refl
-missing_at_test Fire t fs = refl
+missing_at_test id t fs = grind arith
 
 missing_at_jump : (id : SectionId) (t : ℕ) (fs : List Bool) → fold_missing id (Jump t) fs ≡ false
-missing_at_jump Where t fs = refl
-missing_at_jump Update t fs = refl
-missing_at_jump Fire t fs = refl
+missing_at_jump id t fs = grind arith
 
 well : (n p t : ℕ) → p < t → t < n → not (is_later n p t) ≡ false
 well n p t h l = (λ i. not (lt-ltb p t h i && lt-ltb t n l i))
@@ -55,16 +49,10 @@ pub room_at_jump : (n : ℕ) → n ≤ 32 → nat_lt 32 (n + 0) ≡ false
 room_at_jump n h = grind arith
 
 pub test_passes : (c : Setting) (k t : ℕ) (s : State) → length s.stack < 32 → k < t → t < c.n → suc k < c.n → is_some (fault_of c k (JumpIfFalse t) (Reached (with_known Truth s))) ≡ false
-test_passes c k t s room later inside more =
-    tested c k (JumpIfFalse t) (with_known Truth s) false false false false false false false false false false false
-    refl (has_one (length s.stack)) refl refl refl refl refl (room_at_test (length s.stack) room)
-    (missing_at_test c.section t s.folded) (well c.n k t later inside) (not_last true k c.n more)
+test_passes c k t s room later inside more = grind (arith, tested, with_known, has_one, room_at_test, missing_at_test, well, not_last)
 
 pub jump_passes : (c : Setting) (k t : ℕ) (s : State) → length s.stack ≤ 32 → k < t → t < c.n → is_some (fault_of c k (Jump t) (Reached s)) ≡ false
-jump_passes c k t s room later inside =
-    tested c k (Jump t) s false false false false false false false false false false false
-    refl (not_under (length s.stack)) refl refl refl refl refl (room_at_jump (length s.stack) room)
-    (missing_at_jump c.section t s.folded) (well c.n k t later inside) refl
+jump_passes c k t s room later inside = grind (arith, tested, not_under, room_at_jump, missing_at_jump, well)
 
 -- ---- their edges
 
@@ -103,17 +91,10 @@ pub record Branches (c : Setting) (i t : ℕ) (j : Instr) (before yes other : St
   pub to_none : (q : ℕ) → i + 1 < q → nat_eq q t ≡ false → carried_to q (visit c.ranges i j (Reached before)) ≡ None
 
 pub truth_branches : (c : Setting) (i t : ℕ) (s : State) → length s.stack < 32 → i + 1 < t → t < c.n → Branches c i t (JumpIfFalse t) (with_known Truth s) s s
-truth_branches c i t s room later inside = record {
-  passes = test_passes c i t s room (omega (arith, later)) inside (omega (arith, later, inside));
-  to_first = ap (λ x. cond x (Some s) None) (to_next i t);
-  to_second = ap (λ x. cond x (Some s) None) (to_target i t (omega (arith, later)));
-  to_none = λ q l h. ap (λ x. cond x (Some s) None) (to_no_other i t q l h);
-}
+truth_branches c i t s room later inside = grind (arith, test_passes, to_next, to_target, to_no_other)
 
 missing_at_field : (id : SectionId) (x : FieldTest) (t : ℕ) (fs : List Bool) → fold_missing id (Test x t) fs ≡ false
-missing_at_field Where x t fs = refl
-missing_at_field Update x t fs = refl
-missing_at_field Fire x t fs = refl
+missing_at_field id x t fs = grind arith
 
 -- a test of a field, where it may stand
 pub field_branches : (c : Setting) (i t : ℕ) (x : FieldTest) (s : State) → may_stand c.section (Test x t) ≡ true → length s.stack < 32 → i + 1 < t → t < c.n → Branches c i t (Test x t) s (narrowed x s) (narrowed (opposite_test x) s)
@@ -181,11 +162,7 @@ module _ (e : State) (c : Setting) (i m n : ℕ) (go : ℕ → Instr) (first sec
   ws0_at o q h l u = (λ j. cons_option (h j) (quiet_before q l u j))
 
   comes0 : Comes e ws0 (i + 1) yes (length first + 1)
-  comes0 = record {
-    long = omega (arith, at.long);
-    label = ap hull_all (ws0_at (Some yes) (i + 1) (ap (carried_to (i + 1)) v0_is ∙ branches.to_first) (omega arith) (omega (arith, pm)));
-    quiet = λ q l h. ws0_at None q (no_edge q l (unlike q (place_of_second i m) (omega (arith, h, hm)))) (omega (arith, l)) (omega (arith, h, hm, pn));
-  }
+  comes0 = grind (arith, ws0_at, v0_is, no_edge, unlike)
 
   abbrev ws1 : List Visit
   ws1 = extended e c.ranges ws0 first
@@ -209,16 +186,10 @@ module _ (e : State) (c : Setting) (i m n : ℕ) (go : ℕ → Instr) (first sec
   whole_is = ap (λ zs. zs ++ v0 ∷ []) (added_append e c.ranges ws0 first (jump ∷ second))
 
   faults_whole : faults c whole ≡ (((faults c new2 || faults c (v1 ∷ [])) || faults c new1) || faults c (v0 ∷ []))
-  faults_whole =
-      ap (faults c) whole_is
-      ∙ faults_append c ((new2 ++ v1 ∷ []) ++ new1) (v0 ∷ [])
-      ∙ ap (λ b. b || faults c (v0 ∷ [])) (faults_append c (new2 ++ v1 ∷ []) new1 ∙ ap (λ b. b || faults c new1) (faults_append c new2 (v1 ∷ [])))
+  faults_whole = grind (arith, faults, whole_is, faults_append)
 
   carries_whole : (q : ℕ) → carries q whole ≡ ((carries q new2 ++ carries q (v1 ∷ [])) ++ carries q new1) ++ carries q (v0 ∷ [])
-  carries_whole q =
-      ap (carries q) whole_is
-      ∙ carries_append q ((new2 ++ v1 ∷ []) ++ new1) (v0 ∷ [])
-      ∙ ap (λ zs. zs ++ carries q (v0 ∷ [])) (carries_append q (new2 ++ v1 ∷ []) new1 ∙ ap (λ zs. zs ++ carries q new1) (carries_append q new2 (v1 ∷ [])))
+  carries_whole q = grind (arith, carries, whole_is, carries_append)
 
   -- ---- behind the first part, where its state is known
 
@@ -230,9 +201,7 @@ module _ (e : State) (c : Setting) (i m n : ℕ) (go : ℕ → Instr) (first sec
     v1_is = visit_is e c.ranges jump ws1 (i + 1 + length first) t comes1.long comes1.label
 
     passes1 : faults c (v1 ∷ []) ≡ false
-    passes1 =
-        ap (λ w. faults c (w ∷ [])) v1_is ∙ fault_is c (i + 1 + length first) jump (Reached t)
-        ∙ jump_passes c (i + 1 + length first) (place_of_second i m + n) t low (omega (arith, hm)) (omega (arith, inside))
+    passes1 = grind (arith, faults, v1_is, fault_is, jump_passes)
 
     edge_on : (b : Bool) (q : ℕ) → (nat_lt (i + 1 + length first) q && (nat_eq q (place_of_second i m + n) || false)) ≡ b → carried_to q v1 ≡ cond b (Some t) None
     edge_on b q h = ap (carried_to q) v1_is ∙ ap (λ x. cond x (Some t) None) h
@@ -279,18 +248,10 @@ module _ (e : State) (c : Setting) (i m n : ℕ) (go : ℕ → Instr) (first sec
 
   -- the first part has a fault; or the second has; or none has
   first_faulty : faults c new1 ≡ true → Labels e c vs i (choice go (i + 1) first m second n) None
-  first_faulty h = record {
-    faulty = faults_whole ∙ ap (λ x. ((faults c new2 || faults c (v1 ∷ [])) || x) || faults c (v0 ∷ [])) h ∙ ap (λ x. x || faults c (v0 ∷ [])) (or_true (faults c new2 || faults c (v1 ∷ [])));
-    gives = λ t h. none≢some h;
-    quiet = λ t h q l. none≢some h;
-  }
+  first_faulty h = grind (arith, faults_whole, faults, or-true)
 
   second_faulty : faults c new2 ≡ true → Labels e c vs i (choice go (i + 1) first m second n) None
-  second_faulty h = record {
-    faulty = faults_whole ∙ ap (λ x. ((x || faults c (v1 ∷ [])) || faults c new1) || faults c (v0 ∷ [])) h;
-    gives = λ t h. none≢some h;
-    quiet = λ t h q l. none≢some h;
-  }
+  second_faulty h = grind (arith, faults_whole, faults)
 
   abbrev Rest : Option Known → Type 0
   Rest x2 = (ws : List Visit) → Comes e ws (place_of_second i m) other (length second) → Labels e c ws (place_of_second i m) second (pushed_on other x2)

@@ -2,7 +2,7 @@
 use Rattle.std.proofs.Common.{◌≡◌, ℕ, ◌+◌, ◌≤◌, ◌<◌, true, false, List, [], ◌∷◌, ◌++◌, length, Some, Ok, refl, sym, ap, subst, ◌∙◌, arith, length-append}
 use Rattle.std.proofs.lemmas.Option.{same_Some}
 use Rattle.wsm_program.specs.declared.instr.Instr.TheVariants as instr
-use Rattle.wsm_query.specs.Tree.{Query, Expr, Number, Truth, Field, EnumName, Key, KeyName, Count, Aggregate, If, Brackets, Minus, Not, Binary, And, Or}
+use Rattle.wsm_query.specs.Tree.{Query, Expr, Number, Truth, Field, Key, Count, Aggregate, If, Brackets, Minus, Not, Binary, And, Or}
 use Rattle.wsm_record.specs.declared.words.CellType.{CellType}
 use Rattle.wsm_record.specs.declared.words.CellType.TheVariants as types
 use Rattle.wsm_check.specs.Types.{typed, op_ty}
@@ -60,9 +60,7 @@ module _ (e : State) (c : Setting) (q : Query) (around : Around) (reads : Reads 
   labelled_on ds nd k a (Number n) t s is h accs room more = push_int e c k s (omega (arith, room)) (omega (arith, more)) n
   labelled_on ds nd k a (Truth b) t s is h accs room more = push_bool e c k s (omega (arith, room)) (omega (arith, more)) b
   labelled_on ds nd k a (Field x) t s is h accs room more = push_field e c k s (omega (arith, room)) (omega (arith, more)) _
-  labelled_on ds nd k a (EnumName x y) t s is h accs room more = push_enum e c k s (omega (arith, room)) (omega (arith, more)) _ _
   labelled_on ds nd k a Key t s is h accs room more = push_key e c k s (omega (arith, room)) (omega (arith, more))
-  labelled_on ds nd k a (KeyName x) t s is h accs room more = push_enum e c k s (omega (arith, room)) (omega (arith, more)) _ _
   labelled_on ds nd k a Count t s is h accs room more = push_count e c k s (omega (arith, room)) (omega (arith, more))
   labelled_on ds nd k a (Aggregate kind x) t s is h accs room more = push_acc e c k s (omega (arith, room)) (omega (arith, more)) a
   labelled_on ds nd k a (If b x y) t s is h accs room more =
@@ -158,6 +156,7 @@ module _ (e : State) (c : Setting) (q : Query) (around : Around) (reads : Reads 
       (λ u v eu ev. same_truth u v (is_truth c q around reads (where_false w ds) nn b y p.right_is right fn in' v ev) eu)
       (push_bool e c (i + 1) (with_fields fy s) (omega (arith, room, some_need q b y)) (omega (arith, more)) true)
       (labelled_on (where_false w ds) nn (i + 1 + 1 + 1) b y types.Bool (with_fields fn s) in' p.right_is right (omega (arith, room)) (omega (arith, more)))
+  labelled_on ds nd k a x t s is h accs room more = push_enum e c k s (omega (arith, room)) (omega (arith, more)) _ _
 
   -- where the fields are as they are declared
   pub labelled : (k a : ℕ) (x : Expr) (t : CellType) (s : State) → s.fields ≡ known_fields 0 q.fields → typed q around x ≡ Ok t → AccsIn c q around a (accumulators_of x) → length s.stack + need q a x ≤ 32 → k + size q a x < c.n →

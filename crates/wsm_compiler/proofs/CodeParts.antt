@@ -19,8 +19,7 @@ length-added_behind code i k t = let l = length-append code (i ∷ term_code k t
 
 -- the same of a test
 pub length-added_test : (code : List Instr) (k : ℕ) (t : Term) → length (code ++ test_code (term_test t) (term_code k t)) ≡ length code + unless_tested (term_test t) (term_size t)
-length-added_test code k t =
-    length-append code (test_code (term_test t) (term_code k t)) ∙ ap (λ n. length code + n) (length-test_code (term_test t) (term_code k t) (term_size t) (length-term_code k t))
+length-added_test code k t = grind (arith, length-append, length-test_code, length-term_code)
 
 -- the elements from place i on are the one there and those behind it
 pub seen_rest : {X Y : Type 0} (f : X → Y) (xs : List X) (i : ℕ) (x : X) → i < length xs → x ≡ get_or xs i x → map f (drop i xs) ≡ f x ∷ map f (drop (i + 1) xs)
@@ -32,14 +31,9 @@ pub ruleset added = (length-added, length-added_behind, length-added_test, appen
 -- an operand's code, and its FOLD
 pub folded : (code mid next : List Instr) (a : ℕ) (f : Folding) (fs : List Folding) → mid ≡ code ++ term_code (length code) f.operand → next ≡ mid ++ instr.Fold a ∷ [] →
     (length next ≡ length code + term_size f.operand + 1) × (next ++ foldings_code (length next) (a + 1) fs ≡ code ++ foldings_code (length code) a (f ∷ fs))
-folded code mid next a f fs m n =
-    let t = term_code (length code) f.operand in
-    let l : length next ≡ length code + term_size f.operand + 1 = omega (arith, ap length n, ap length m, length-append mid (instr.Fold a ∷ []), length-added code (length code) f.operand) in
-    (l, rw (l, n, m, add-one a) (simp append_assoc))
+folded code mid next a f fs m n = grind (arith, length-append, length-added, add-one, append_assoc)
 
 -- a column's code
 pub computed : (code next : List Instr) (t : Term) (rest : ℕ → List Instr) → next ≡ code ++ term_code (length code) t →
     (length next ≡ length code + term_size t) × (next ++ rest (length next) ≡ code ++ (term_code (length code) t ++ rest (length code + term_size t)))
-computed code next t rest n =
-    let l : length next ≡ length code + term_size t = omega (arith, ap length n, length-added code (length code) t) in
-    (l, rw (l, n) (simp append_assoc))
+computed code next t rest n = grind (arith, length-added, append_assoc)

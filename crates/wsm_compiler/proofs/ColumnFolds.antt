@@ -1,5 +1,5 @@
 -- The folds of UPDATE's values are what accumulators hold of the records, column by column.
-use Rattle.std.proofs.Common.{◌≡◌, ℕ, zero, suc, ◌+◌, Bool, true, false, cond, List, [], ◌∷◌, map, Option, Some, None, refl, sym, ap, ◌∙◌, arith}
+use Rattle.std.proofs.Common.{◌≡◌, ℕ, zero, suc, Bool, cond, List, [], ◌∷◌, map, Option, Some, None, refl, sym, ap, ◌∙◌, arith}
 use Rattle.std.specs.Prelude.{slice_get}
 use Rattle.std.proofs.lemmas.Option.{same_Some}
 use Rattle.wsm_record.specs.declared.event.Value.{Value}
@@ -7,7 +7,7 @@ use Rattle.wsm_record.specs.declared.words.Kind.{Kind}
 use Rattle.wsm_fold.specs.Laws.{joined_to}
 use Rattle.wsm_fold.specs.Fold.{join, joins, fold_of, folds_of}
 use Rattle.wsm_query.specs.Tree.{Query}
-use Rattle.wsm_check.specs.Aggregates.{Acc, accumulators}
+use Rattle.wsm_check.specs.Aggregates.{Acc}
 use Rattle.wsm_compiler.specs.Meaning.{meaning, meets_i64, on_record, all_of, fold_where_all}
 use Rattle.wsm_compiler.specs.Sections.{in_bounds, folded_values}
 use Rattle.wsm_compiler.specs.Folded.{AreUpdates, FoldsHold}
@@ -43,13 +43,10 @@ record First (o : Option Value) (rest : Option (List Value)) (row : List Value) 
   row_is : row ≡ value ∷ values
 
 first_of : (o : Option Value) (rest : Option (List Value)) (row : List Value) → elim o as (λ x. Option (List Value)) [ None ↦ None | Some x ↦ elim rest [ None ↦ None | Some xs ↦ Some (x ∷ xs) ] ] ≡ Some row → First o rest row
-first_of None rest row h = none≢some h
-first_of (Some x) None row h = none≢some h
-first_of (Some x) (Some xs) row h = record { value = x; values = xs; is = refl; rest_is = refl; row_is = sym (same_Some (x ∷ xs) row h) }
+first_of o rest row h = grind arith
 
 bounded_means : (b : Bool) (o : Option Value) (v : Value) → cond b o None ≡ Some v → o ≡ Some v
-bounded_means true o v h = h
-bounded_means false o v h = none≢some h
+bounded_means b o v h = grind arith
 
 module _ (q : Query) (key : ℕ) where
   abbrev meanings : Acc → List (List Value) → List (Option Value)
@@ -64,8 +61,6 @@ module _ (q : Query) (key : ℕ) where
 
   column : (acc : Acc) (accs : List Acc) (records rows : List (List Value)) → AreUpdates q key (acc ∷ accs) records rows → Column acc accs records rows
   column acc accs [] [] h = record { parted = []; rows_are = refl; first_is = refl; others_are = tt }
-  column acc accs [] (row ∷ rows) h = absurd h
-  column acc accs (vs ∷ records) [] h = absurd h
   column acc accs (vs ∷ records) (row ∷ rows) h =
       let s = on_record key vs in
       let f = first_of (in_bounds q s 0 acc.operand) (folded_values q s accs) row h.0 in
@@ -77,6 +72,7 @@ module _ (q : Query) (key : ℕ) where
         first_is = (λ i. elim (v i) as (λ x. Option (List Value)) [ None ↦ None | Some x ↦ elim (c.first_is i) as (λ y. Option (List Value)) [ None ↦ None | Some xs ↦ Some (x ∷ xs) ] ]);
         others_are = (f.rest_is, c.others_are);
       }
+  column acc accs records rows h = absurd h
 
   hold : (accs : List Acc) (records rows : List (List Value)) (held : List Value) → AreUpdates q key accs records rows → folds_of (map (λ acc. acc.kind) accs) rows ≡ Some held →
       (j : ℕ) (acc : Acc) → slice_get accs j ≡ Some acc → slice_get held j ≡ fold_where_all acc.kind (all_of (meanings acc records))
@@ -103,6 +99,4 @@ module _ (q : Query) (key : ℕ) where
           ∙ go (others (p ∷ ps)) (joined_to (joins ks) p.1 (folds_of ks (others ps))) u refl j get
 
 pub folds_hold : (q : Query) → FoldsHold q
-folds_hold q key records rows held h is j acc get =
-    let first : 0 + j ≡ j = omega arith in
-    ap (slice_get held) first ∙ hold q key (accumulators q) records rows held h is j acc get
+folds_hold q key records rows held h is j acc get = grind (arith, hold)

@@ -7,7 +7,6 @@ use Rattle.wsm_program.specs.declared.instr.Instr.{Instr}
 use Rattle.wsm_program.specs.declared.program.Costs.{Costs}
 use Rattle.wsm_query.specs.Tree.{Query, Expr}
 use Rattle.wsm_record.specs.declared.words.CellType.{CellType}
-use Rattle.wsm_record.specs.declared.words.CellType.TheVariants as types
 use Rattle.wsm_check.specs.Types.{typed}
 use Rattle.wsm_check.specs.declared.types.Around.TheVariants.{InColumn}
 use Rattle.wsm_check.specs.Aggregates.{accumulators_of, aggregates, fired}
@@ -15,12 +14,11 @@ use Rattle.wsm_rules.specs.declared.known.Known.{Known}
 use Rattle.wsm_rules.specs.Labels.{State, Ranges, Visit, Reached, label_of, label_at, visits, visited_next}
 use Rattle.wsm_rules.specs.Rules.{Setting, entry, known_fields, known_accumulators, update_visits}
 use Rattle.wsm_compiler.specs.Code.{code, size, need, columns_code}
-use Rattle.wsm_compiler.specs.Ranges.{Range, Unfit, NoNumber, Within, range, fits}
+use Rattle.wsm_compiler.specs.Ranges.{Range, range, fits}
 use Rattle.wsm_check.specs.Parts.{aggregates_of, type_or_int}
 use Rattle.wsm_compiler.specs.Program.{program_stating, program_of, stated, needed_of}
 use Rattle.wsm_compiler.specs.Labelled.{known_as, ColumnLabels, LabelsAreRanges}
 use Rattle.wsm_compiler.proofs.Visits.{extended, added, extended_is, visits_are}
-use Rattle.wsm_machine.proofs.FittingStacks.{no}
 use Rattle.wsm_compiler.proofs.Parts.{Comes, Labels, shorter, continued}
 use Rattle.wsm_compiler.proofs.Tests.{with_known, pushed_on}
 use Rattle.wsm_compiler.proofs.QueryTerms.{columns_size, columns_need}
@@ -38,13 +36,7 @@ use Rattle.wsm_compiler.proofs.Rooms.{first_room, rest_room}
 use Rattle.wsm_check.proofs.PassedChecks.{length-accumulators_of}
 
 known_is : (t : CellType) (r : Range) → suits t r ≡ true → fits r ≡ true → known_of t r ≡ Some (known_as t r)
-known_is t Unfit h l = no l
-known_is types.Int NoNumber h l = no h
-known_is types.Int (Within i) h l = refl
-known_is types.Bool NoNumber h l = refl
-known_is types.Bool (Within i) h l = no h
-known_is (types.Enum e) NoNumber h l = refl
-known_is (types.Enum e) (Within i) h l = no h
+known_is t r h l = grind arith
 
 extended_append : (e : State) (r : Ranges) (vs : List Visit) (is js : List Instr) → extended e r vs (is ++ js) ≡ extended e r (extended e r vs is) js
 extended_append e r vs [] js = refl
@@ -52,8 +44,7 @@ extended_append e r vs (i ∷ is) js = extended_append e r (visited_next e r i v
 
 -- the visits of a section's first instructions
 visits_front : (e : State) (r : Ranges) (is js : List Instr) (n : ℕ) → n ≡ length is → visits e r (take n (is ++ js)) ≡ extended e r [] is
-visits_front e r is js n h =
-    ap (λ m. visits e r (take m (is ++ js))) h ∙ ap (visits e r) (take-append_seam is js) ∙ visits_are e r is ∙ sym (extended_is e r [] is ∙ append-nil (added e r [] is))
+visits_front e r is js n h = grind (arith, take-append_seam, visits_are, extended_is, append-nil, added)
 
 module _ (q : Query) (b : Costs) (e : State) (c : Setting) (reads : Reads c q InColumn) where
   columns_labelled : (front : List Instr) (h k a : ℕ) (es : List Expr) (below : List Known) → length front ≡ k → ColumnsTyped q es → columns_fit q es ≡ true → Accs c q a (flat_map accumulators_of es ++ in_condition q.having) →

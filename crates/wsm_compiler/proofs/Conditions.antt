@@ -11,7 +11,6 @@ use Rattle.wsm_program.specs.declared.program.Costs.{Costs}
 use Rattle.wsm_query.specs.Tree.{Query, Expr}
 use Rattle.wsm_record.specs.declared.words.CellType.{CellType}
 use Rattle.wsm_record.specs.declared.words.CellType.TheVariants as types
-use Rattle.wsm_record.specs.Types.{is_type}
 use Rattle.wsm_check.specs.Types.{typed}
 use Rattle.wsm_check.specs.declared.types.Around.{Around}
 use Rattle.wsm_check.specs.declared.types.Around.TheVariants.{InWhere, InColumn}
@@ -22,8 +21,8 @@ use Rattle.wsm_rules.specs.declared.known.Known.TheVariants as known
 use Rattle.wsm_rules.specs.Labels.{State, same_type, same_types}
 use Rattle.wsm_rules.specs.Rules.{Setting, setting, entry, known_fields, ranges_of_record, column_known, fold_missing, fault_in}
 use Rattle.wsm_compiler.specs.Code.{code, size, need, condition_code, columns_code}
-use Rattle.wsm_compiler.specs.Ranges.{Range, Unfit, NoNumber, Within, range, fits}
-use Rattle.wsm_check.specs.Parts.{column_type, type_or_int}
+use Rattle.wsm_compiler.specs.Ranges.{Range, range, fits}
+use Rattle.wsm_check.specs.Parts.{column_type}
 use Rattle.wsm_compiler.specs.Program.{program_stating}
 use Rattle.wsm_machine.proofs.FittingStacks.{no, type_known}
 use Rattle.wsm_machine.proofs.PushedValues.{same_type_is}
@@ -55,13 +54,7 @@ in_condition (Some e) = accumulators_of e
 
 -- a fault where it doesn't fit, or what comes behind
 pub fits_and : (t : CellType) (r : Range) (b : Bool) → suits t r ≡ true → or_behind (known_of t r) (λ x. not b) ≡ not (fits r && b)
-fits_and t Unfit b h = refl
-fits_and types.Int NoNumber b h = no h
-fits_and types.Bool NoNumber b h = refl
-fits_and (types.Enum e) NoNumber b h = refl
-fits_and types.Int (Within i) b h = refl
-fits_and types.Bool (Within i) b h = no h
-fits_and (types.Enum e) (Within i) b h = no h
+fits_and t r b h = grind arith
 
 -- a condition and its section's return
 pub condition_ends : (e : State) (c : Setting) (q : Query) (around : Around) → Reads c q around → (k a : ℕ) (o : Option Expr) (s : State) → s.fields ≡ known_fields 0 q.fields → ConditionTyped q around o → AccsIn c q around a (in_condition o) →
@@ -111,9 +104,7 @@ ends_next q x es below =
 
 -- a column's value has its type
 column_same : (q : Query) (x : Expr) (t : CellType) (y : Known) → typed q InColumn x ≡ Ok t → type_known y ≡ t → same_type y (column_known (column_type q x)) ≡ true
-column_same q x t y h l =
-    let is : type_known (column_known (column_type q x)) ≡ type_known y = ap (λ r. type_known (column_known (type_or_int r))) h ∙ column_is t ∙ sym l in
-    sym (same_type_is y (column_known (column_type q x))) ∙ ap (is_type (type_known y)) is ∙ same_type_is y y ∙ type_self y
+column_same q x t y h l = grind (arith, type_known, column_is, same_type_is, type_self)
 
 -- columns from the a-th aggregate on, behind which HAVING has the h-th
 pub columns_ends : (e : State) (c : Setting) (q : Query) → Reads c q InColumn → (h k a : ℕ) (es : List Expr) (s : State) (below : List Known) → a + aggregates_of es ≡ h → s.fields ≡ known_fields 0 q.fields → ColumnsTyped q es → ConditionTyped q InColumn q.having →

@@ -10,13 +10,13 @@ use Rattle.std.proofs.lemmas.List.{length-map}
 use Rattle.wsm_record.specs.Name.{is_between}
 use Rattle.wsm_record.specs.Schema.{is_within}
 use Rattle.wsm_windows.specs.declared.window.Shape.{Shape}
-use Rattle.wsm_windows.specs.declared.window.Shape.TheVariants.{Fixed, Sliding, Session}
 use Rattle.wsm_windows.specs.Life.{live_bound}
 use Rattle.wsm_windows.specs.Limits.{is_shape, is_size, is_span, is_time}
 use Rattle.wsm_program.specs.declared.program.Costs.{Costs}
 use Rattle.wsm_rules.specs.Costs.{windows_of_a_record, join_steps}
 use Rattle.wsm_program.specs.Program.{is_stated, is_budget}
-use Rattle.wsm_query.specs.Tree.{Query, Budget}
+use Rattle.wsm_query.specs.declared.query.Budget.{Budget}
+use Rattle.wsm_query.specs.Tree.{Query}
 use Rattle.wsm_check.specs.Checks.{is_cost, budget_fits}
 use Rattle.wsm_check.specs.Tested.{unless_tested}
 use Rattle.wsm_check.specs.Aggregates.{accumulators}
@@ -33,8 +33,7 @@ use Rattle.wsm_compiler.proofs.Passed.{Passed}
 
 -- the path of a test that a jump makes is none
 test_at_most : {A : Type 0} (t : Option A) (l n : ℕ) → l ≤ n → unless_tested t l ≤ unless_tested t n
-test_at_most None l n h = h
-test_at_most (Some t) l n h = omega arith
+test_at_most t l n h = grind arith
 
 -- a test and two parts
 chosen_at_most : (c : Term) (m n x y : ℕ) → longest c ≤ term_size c → m ≤ x → n ≤ y → unless_tested (term_test c) (longest c) + (1 + max (m + 1) n) ≤ unless_tested (term_test c) (term_size c) + (x + y) + 2
@@ -53,8 +52,7 @@ longest_at_most (Or x y) = let h = chosen_at_most x 1 (longest y) 1 (term_size y
 longest_at_most t = omega arith
 
 ending_at_most : (o : Option Term) → (0 < longest_ending o) × (longest_ending o ≤ ending_size o)
-ending_at_most None = (omega arith, omega arith)
-ending_at_most (Some t) = let h = longest_at_most t in (omega arith, omega (arith, h))
+ending_at_most o = grind (arith, longest_at_most)
 
 foldings_at_most : (fs : List Folding) → longest_foldings fs ≤ foldings_size fs
 foldings_at_most [] = omega arith
@@ -94,29 +92,16 @@ size_is (pos n) h = let p = and_parts (int_le (pos 1) (pos n)) (int_le (pos n) l
 size_is (negsuc n) h = no h
 
 period_is : (size period : ℤ) → is_within (pos 1) size period ≡ true → 0 < unsigned_abs period
-period_is size (pos n) h = from_one n (and_parts (int_le (pos 1) (pos n)) (int_le (pos n) size) h).0
-period_is size (negsuc n) h = no h
+period_is size period h = grind (arith, from_one)
 
 windows_at_most : (s : Shape) → is_shape s ≡ true → windows_of_a_record s ≤ 1000000000001
-windows_at_most (Fixed size) h = omega arith
-windows_at_most (Sliding size period) h =
-    let c = size_is size (and_parts (is_size size) (is_within (pos 1) size period) h).0 in
-    let d = ceil_at_most (unsigned_abs size) (unsigned_abs period) in
-    omega (arith, c.1, d)
-windows_at_most (Session gap) h = omega arith
+windows_at_most s h = grind (arith, size_is, ceil_at_most)
 
 spans_added : (skew lateness size : ℤ) → is_span skew ≡ true → is_span lateness ≡ true → is_size size ≡ true → 0 < unsigned_abs ((skew +ℤ lateness) +ℤ size)
-spans_added (pos m) (pos n) (pos l) h i j = let c = size_is (pos l) j in omega (arith, c.0)
-spans_added (negsuc m) lateness size h i j = no h
-spans_added (pos m) (negsuc n) size h i j = no i
-spans_added (pos m) (pos n) (negsuc l) h i j = no j
+spans_added skew lateness size h i j = grind (arith, size_is)
 
 live_at_least : (s : Shape) (skew lateness : ℤ) → is_shape s ≡ true → is_span skew ≡ true → is_span lateness ≡ true → 0 < live_bound s skew lateness
-live_at_least (Fixed size) skew lateness h i j = ceil_at_least (unsigned_abs ((skew +ℤ lateness) +ℤ size)) (unsigned_abs size) (spans_added skew lateness size i j h) (size_is size h).0
-live_at_least (Sliding size period) skew lateness h i j =
-    let p = and_parts (is_size size) (is_within (pos 1) size period) h in
-    ceil_at_least (unsigned_abs ((skew +ℤ lateness) +ℤ size)) (unsigned_abs period) (spans_added skew lateness size i j p.0) (period_is size period p.1)
-live_at_least (Session gap) skew lateness h i j = omega arith
+live_at_least s skew lateness h i j = grind (arith, ceil_at_least, spans_added, size_is, period_is)
 
 -- ---- what is stated
 
@@ -127,9 +112,7 @@ abbrev costs_fit : Costs → Bool
 costs_fit c = is_stated c.per_record && (is_stated c.per_pane && is_between 1 100000 c.held)
 
 joins_at_most : (s : Shape) (n : ℕ) → join_steps s n ≤ n
-joins_at_most (Fixed size) n = omega arith
-joins_at_most (Sliding size period) n = omega arith
-joins_at_most (Session gap) n = omega arith
+joins_at_most s n = grind arith
 
 product_at_most : (m n : ℕ) → m ≤ 1000000000001 → n ≤ 1000 → m * n ≤ 1000000000001000
 product_at_most m n h l = grind arith
@@ -146,18 +129,18 @@ needed_fits q p keys =
     let u = foldings_at_most parts.foldings in
     let f = firing_at_most parts.having parts.columns in
     let few = length-map (accumulators q) (folding q) in
-    let windows = windows_at_most q.shape p.shape in
-    let product = product_at_most (windows_of_a_record q.shape) (longest_foldings parts.foldings) windows (omega (arith, u, p.code.update)) in
-    let joins = joins_at_most q.shape (length parts.foldings) in
+    let windows = windows_at_most q.output.shape p.shape in
+    let product = product_at_most (windows_of_a_record q.output.shape) (longest_foldings parts.foldings) windows (omega (arith, u, p.code.update)) in
+    let joins = joins_at_most q.output.shape (length parts.foldings) in
     let i = and_parts (is_time q.clock.start) (is_span q.clock.skew && (is_span q.clock.lateness && is_size q.clock.records)) p.clock in
     let j = and_parts (is_span q.clock.skew) (is_span q.clock.lateness && is_size q.clock.records) i.1 in
     let k = and_parts (is_span q.clock.lateness) (is_size q.clock.records) j.1 in
-    let live = live_at_least q.shape q.clock.skew q.clock.lateness p.shape j.0 k.0 in
+    let live = live_at_least q.output.shape q.clock.skew q.clock.lateness p.shape j.0 k.0 in
     and_from (is_stated need.per_record) (is_stated need.per_pane && is_between 1 100000 need.held)
     (between 1 1000000000000000000 need.per_record (omega (arith, w.0)) (omega (arith, w.1, product, joins, few, p.code.selection, p.code.accs)))
     (and_from (is_stated need.per_pane) (is_between 1 100000 need.held)
     (between 1 1000000000000000000 need.per_pane (omega (arith, f.0)) (omega (arith, f.1, p.code.fire)))
-    (between 1 100000 need.held (product_at_least (length q.keys) (live_bound q.shape q.clock.skew q.clock.lateness) keys live) p.code.held))
+    (between 1 100000 need.held (product_at_least (length q.keys) (live_bound q.output.shape q.clock.skew q.clock.lateness) keys live) p.code.held))
 
 cost_is : (lo hi : ℕ) (n : ℤ) → is_within (pos lo) (pos hi) n ≡ true → is_between lo hi (unsigned_abs n) ≡ true
 cost_is lo hi (pos n) h = let p = and_parts (int_le (pos lo) (pos n)) (int_le (pos n) (pos hi)) h in and_from (nat_le lo n) (nat_le n hi) (same lo n p.0) (same n hi p.1)

@@ -3,20 +3,18 @@ use Rattle.std.proofs.Common.{◌≡◌, ℕ, suc, ◌+◌, Bool, true, false, �
 use Rattle.std.proofs.Math.Numerals.{one-add}
 use Rattle.std.proofs.lemmas.List.{length-map}
 use Rattle.std.proofs.lemmas.List.Folds.{list_any-append}
-use Rattle.std.specs.Prelude.{bytes_eq, nat_le, nat_lt, slice_get}
+use Rattle.std.specs.Prelude.{bytes_eq, nat_lt, slice_get}
 use Rattle.std.specs.List.{list_all}
 use Rattle.std.proofs.lemmas.Bool.{and_from, and_parts, not-true}
 use Rattle.std.proofs.Math.Bool.{or-false}
 use Rattle.wsm_record.specs.Name.{is_name, is_among}
-use Rattle.wsm_record.specs.Schema.{DeclaredField, FieldType, are_names_after, are_sources, is_name_list, is_source_count, names_of_type, names_of_field}
+use Rattle.wsm_record.specs.Schema.{DeclaredField, FieldType, are_names_after, are_sources, is_name_list, names_of_type, names_of_field}
 use Rattle.wsm_program.specs.Program.{is_name_of, is_number_type, is_number_field}
-use Rattle.wsm_record.specs.Schema as field_types
 use Rattle.wsm_query.specs.Tree.{Name}
-use Rattle.wsm_check.specs.declared.refusal.CheckFault.TheVariants.{Duplicate, Limit}
+use Rattle.wsm_check.specs.declared.refusal.CheckFault.TheVariants.{Duplicate}
 use Rattle.wsm_check.specs.declared.refusal.Part.{Part}
-use Rattle.wsm_check.specs.declared.refusal.Part.TheVariants as part
 use Rattle.wsm_check.specs.Names.{place_of, has_repeats, field_names, field_place, names_of, type_of}
-use Rattle.wsm_check.specs.Checks.{unless, first, names_refusal, sources_refusal}
+use Rattle.wsm_check.specs.Checks.{unless, names_refusal, sources_refusal}
 use Rattle.wsm_machine.proofs.FittingStacks.{no}
 use Rattle.wsm_compiler.proofs.Passed.{unless_none}
 use Rattle.wsm_check.proofs.NamedFields.{first_below}
@@ -61,15 +59,12 @@ number_there (d ∷ ds) x h =
 
 -- a name of a type is one of the names that the type declares
 pub name_there : (ty : FieldType) (y : Name) → is_among y (names_of ty) ≡ true → is_name_of (names_of_type ty) (place_of y (names_of ty)) ≡ true
-name_there (field_types.Int lo hi) y h = no h
-name_there field_types.Truth y h = no h
-name_there (field_types.Enum names) y h = place_below y names h
+name_there ty y h = grind (arith, place_below)
 
 -- ---- names without repeats
 
 or_is : (a b : Bool) → (a || b) ≡ false → (a ≡ false) × (b ≡ false)
-or_is true b h = no (sym h)
-or_is false b h = (refl, h)
+or_is a b h = grind arith
 
 abbrev pub apart : List Name → List Name → Bool
 apart before xs = list_all (λ x. not (is_among x before)) xs
@@ -102,17 +97,7 @@ listed : (p : Part) (xs : List Name) → unless (not (has_repeats xs)) Duplicate
 listed p xs h l = listed_after [] xs l (apart_none xs) (not-true (has_repeats xs) (unless_none (not (has_repeats xs)) Duplicate p h))
 
 pub names_listed : (p : Part) (xs : List Name) → names_refusal p xs ≡ None → list_all is_name xs ≡ true → is_name_list xs ≡ true
-names_listed p xs h l =
-    let many = nat_le 1 (length xs) && nat_le (length xs) 1000 in
-    let r2 = unless (not (has_repeats xs)) Duplicate p in
-    let a = passed_both (unless many Limit p) (first (r2 ∷ [])) h in
-    let b = passed_both r2 None a.1 in
-    and_from many (are_names_after [] xs) (unless_none many Limit p a.0) (listed p xs b.0 l)
+names_listed p xs h l = grind (arith, passed_both, unless_none, listed)
 
 pub sources_listed : (xs : List Name) → sources_refusal xs ≡ None → list_all is_name xs ≡ true → are_sources xs ≡ true
-sources_listed xs h l =
-    let many = is_source_count (length xs) in
-    let r2 = unless (not (has_repeats xs)) Duplicate part.Sources in
-    let a = passed_both (unless many Limit part.Sources) (first (r2 ∷ [])) h in
-    let b = passed_both r2 None a.1 in
-    and_from many (are_names_after [] xs) (unless_none many Limit part.Sources a.0) (listed part.Sources xs b.0 l)
+sources_listed xs h l = grind (arith, passed_both, unless_none, listed)

@@ -4,15 +4,12 @@ use Rattle.std.specs.Prelude.{ℤ, pos, ◌*ℤ◌, is_some, slice_get, slice_in
 use Rattle.std.specs.Int.{int_min, int_max}
 use Rattle.std.proofs.lemmas.Bool.{and_parts}
 use Rattle.wsm_record.specs.declared.words.Kind.{Kind}
-use Rattle.wsm_record.specs.declared.words.Kind.TheVariants.{Sum, Min, Max, Any, All}
 use Rattle.wsm_record.specs.Name.{is_among}
 use Rattle.wsm_interval.specs.declared.interval.Interval.{Interval}
 use Rattle.wsm_interval.specs.Interval.{interval}
 use Rattle.wsm_program.specs.declared.instr.Instr.TheVariants as instr
 use Rattle.wsm_query.specs.declared.expr.Op.{Op}
-use Rattle.wsm_query.specs.declared.expr.Op.TheVariants.{Add, Sub, Mul, Div, Rem, Eq, Ne, Lt, Le, Gt, Ge}
 use Rattle.wsm_record.specs.Schema.{FieldType, DeclaredField, is_i64}
-use Rattle.wsm_record.specs.Schema as field_types
 use Rattle.wsm_query.specs.Tree.{Name, Query, Expr, Number, Truth, Field, EnumName, Key, KeyName, Count, Aggregate, If, Brackets, Minus, Not, Binary, And, Or}
 use Rattle.wsm_check.specs.Names.{field_names, field_place, type_of, names_of}
 use Rattle.wsm_record.specs.declared.words.CellType.{CellType}
@@ -20,7 +17,7 @@ use Rattle.wsm_record.specs.declared.words.CellType.TheVariants as types
 use Rattle.wsm_record.specs.Types.{is_type, kind_type}
 use Rattle.wsm_check.specs.Types.{Typed, wanted, if_typed, declared_ty, read_at, field_ty, op_ty, logic_ty, entered, typed}
 use Rattle.wsm_check.specs.declared.types.Around.{Around}
-use Rattle.wsm_check.specs.declared.types.Around.TheVariants.{InWhere, InColumn, InAggregate}
+use Rattle.wsm_check.specs.declared.types.Around.TheVariants.{InColumn, InAggregate}
 use Rattle.wsm_check.specs.Aggregates.{Acc, accumulators_of, aggregates}
 use Rattle.wsm_rules.specs.declared.known.Known.{Known}
 use Rattle.wsm_rules.specs.declared.known.Known.TheVariants as known
@@ -33,7 +30,6 @@ use Rattle.wsm_compiler.proofs.Choices.{hulled}
 use Rattle.wsm_rules.specs.Rules.{known_fields}
 use Rattle.wsm_program.specs.Instructions.{may_stand}
 use Rattle.wsm_interval.specs.declared.Comparison.{Comparison}
-use Rattle.wsm_compiler.proofs.Parts.{none≢some}
 use Rattle.wsm_compiler.proofs.TestedForms.{of_field, of_number, of_test}
 use Rattle.wsm_check.specs.Terms.{resolved}
 use Rattle.wsm_check.specs.Tested.{comparison_of, term_field, term_number}
@@ -42,40 +38,25 @@ use Rattle.wsm_compiler.specs.Code.{test_of}
 use Rattle.wsm_compiler.proofs.QueryTerms.{same_test}
 use Rattle.wsm_compiler.proofs.Found.{of_instr, known_true, known_false, test_found, found}
 use Rattle.wsm_compiler.proofs.NarrowedFields.{Narrows, as_declared, true_narrows, false_narrows, known_here, true_known, false_known, test_hulled, tested_fits, of_cond}
-use Rattle.wsm_compiler.proofs.FoundRanges.{ok_is, err≢ok, typed_first, wanted_is, ty_is, suits, known_of, minus_found, minus_suits, not_found, op_typed, result_of, op_found}
+use Rattle.wsm_compiler.proofs.FoundRanges.{ok_is, typed_first, wanted_is, ty_is, suits, known_of, minus_found, minus_suits, not_found, op_typed, result_of, op_found}
 use Rattle.wsm_check.proofs.PassedChecks.{length-accumulators_of}
 
 -- ---- types
 
 pub cond_ok : (b : Bool) (x : Typed) (f : _) (t : CellType) → cond b x (Err f) ≡ Ok t → x ≡ Ok t
-cond_ok true x f t e = e
-cond_ok false x f t e = err≢ok e
+cond_ok b x f t e = grind arith
 
 read_is : (around : Around) (u t : CellType) → read_at around u ≡ Ok t → u ≡ t
-read_is InWhere u t e = ok_is u t e
-read_is InColumn u t e = err≢ok e
-read_is InAggregate u t e = ok_is u t e
+read_is around u t e = grind (arith, ok_is)
 
 pub field_is : (q : Query) (around : Around) (x : Name) (t : CellType) → field_ty q around x ≡ Ok t → declared_ty (field_place q.fields x) (type_of x q.fields) ≡ t
 field_is q around x t e = read_is around _ t (cond_ok (is_among x (field_names q.fields)) _ _ t e)
 
 pub entered_is : (around : Around) (x : Typed) (t : CellType) → entered around x ≡ Ok t → (around ≡ InColumn) × (x ≡ Ok t)
-entered_is InWhere x t e = err≢ok e
-entered_is InAggregate x t e = err≢ok e
-entered_is InColumn x t e = (refl, e)
+entered_is around x t e = grind arith
 
 pub op_is : (op : Op) (t u w : CellType) → op_ty op t u ≡ Ok w → (op_typed op t u ≡ true) × (result_of op ≡ w)
-op_is Add t u w e = wanted_is _ types.Int w e
-op_is Sub t u w e = wanted_is _ types.Int w e
-op_is Mul t u w e = wanted_is _ types.Int w e
-op_is Div t u w e = wanted_is _ types.Int w e
-op_is Rem t u w e = wanted_is _ types.Int w e
-op_is Eq t u w e = wanted_is _ types.Bool w e
-op_is Ne t u w e = wanted_is _ types.Bool w e
-op_is Lt t u w e = wanted_is _ types.Bool w e
-op_is Le t u w e = wanted_is _ types.Bool w e
-op_is Gt t u w e = wanted_is _ types.Bool w e
-op_is Ge t u w e = wanted_is _ types.Bool w e
+op_is op t u w e = grind (arith, wanted_is)
 
 -- the types of both operands of an operator
 pub record TwoTypes (q : Query) (around : Around) (x y : Expr) (go : CellType → CellType → Typed) (w : CellType) : Type 0 where
@@ -86,10 +67,7 @@ pub record TwoTypes (q : Query) (around : Around) (x y : Expr) (go : CellType �
   pub both : go left right ≡ Ok w
 
 pub two_types : (q : Query) (around : Around) (x y : Expr) (go : CellType → CellType → Typed) (w : CellType) → if_typed (typed q around x) (λ t. if_typed (typed q around y) (λ u. go t u)) ≡ Ok w → TwoTypes q around x y go w
-two_types q around x y go w e =
-    let l = typed_first (typed q around x) (λ t. if_typed (typed q around y) (λ u. go t u)) w e in
-    let r = typed_first (typed q around y) (λ u. go l.0 u) w l.2 in
-    record { left = l.0; right = r.0; left_is = l.1; right_is = r.1; both = r.2 }
+two_types q around x y go w e = grind (arith, typed_first)
 
 -- the parts of IF: a truth, and two of one type
 pub record IfTypes (q : Query) (around : Around) (c x y : Expr) (w : CellType) : Type 0 where
@@ -116,18 +94,11 @@ pub record LogicTypes (q : Query) (around : Around) (x y : Expr) (w : CellType) 
   pub is : types.Bool ≡ w
 
 pub logic_types : (q : Query) (around : Around) (x y : Expr) (w : CellType) → if_typed (typed q around x) (λ t. if_typed (typed q around y) (λ u. logic_ty t u)) ≡ Ok w → LogicTypes q around x y w
-logic_types q around x y w e =
-    let two = two_types q around x y logic_ty w e in
-    let same = wanted_is (is_type two.left types.Bool && is_type two.right types.Bool) types.Bool w two.both in
-    let parts = and_parts (is_type two.left types.Bool) (is_type two.right types.Bool) same.0 in
-    record { left_is = two.left_is ∙ ap Ok (ty_is two.left types.Bool parts.0); right_is = two.right_is ∙ ap Ok (ty_is two.right types.Bool parts.1); is = same.1 }
+logic_types q around x y w e = grind (arith, two_types, wanted_is, ty_is)
 
 -- the operand of a unary operator that gives the type that it takes
 pub unary_is : (q : Query) (around : Around) (x : Expr) (u w : CellType) → if_typed (typed q around x) (λ t. wanted (is_type t u) u) ≡ Ok w → (typed q around x ≡ Ok u) × (u ≡ w)
-unary_is q around x u w e =
-    let f = typed_first (typed q around x) (λ t. wanted (is_type t u) u) w e in
-    let g = wanted_is (is_type f.0 u) u w f.2 in
-    (f.1 ∙ ap Ok (ty_is f.0 u g.0), g.1)
+unary_is q around x u w e = grind (arith, typed_first, wanted_is, ty_is)
 
 -- ---- ranges suit types
 
@@ -135,47 +106,23 @@ suits_at : (r : Range) (u t : CellType) → u ≡ t → suits u r ≡ true → s
 suits_at r u t e h = subst (λ x. suits x r ≡ true) e h
 
 declared_suits : (f : ℕ) (ty : FieldType) → suits (declared_ty f ty) (of_type ty) ≡ true
-declared_suits f (field_types.Int lo hi) = refl
-declared_suits f field_types.Truth = refl
-declared_suits f (field_types.Enum names) = refl
+declared_suits f ty = grind arith
 
 sum_suits : (n : ℤ) (x : Interval) → suits types.Int (of_sum n x) ≡ true
 sum_suits n x = elim (is_i64 (n *ℤ x.lo) && is_i64 (n *ℤ x.hi)) as (λ b. suits types.Int (cond b (Within (interval (int_min x.lo (n *ℤ x.lo)) (int_max x.hi (n *ℤ x.hi)))) Unfit) ≡ true) [ true ↦ refl | false ↦ refl ]
 
 alike_suits : (r : Range) → suits types.Bool r ≡ true → suits types.Bool (no_number r r) ≡ true
-alike_suits Unfit h = refl
-alike_suits NoNumber h = refl
-alike_suits (Within i) h = no h
+alike_suits r h = grind arith
 
 pub aggregate_suits : (n : ℤ) (kind : Kind) (r : Range) → suits (kind_type kind) r ≡ true → suits (kind_type kind) (of_aggregate n kind r) ≡ true
-aggregate_suits n Sum Unfit h = refl
-aggregate_suits n Sum NoNumber h = no h
-aggregate_suits n Sum (Within x) h = sum_suits n x
-aggregate_suits n Min r h = h
-aggregate_suits n Max r h = h
-aggregate_suits n Any r h = alike_suits r h
-aggregate_suits n All r h = alike_suits r h
+aggregate_suits n kind r h = grind (arith, sum_suits, alike_suits)
 
 -- a choice between two values of one type
 abbrev Chosen : CellType → Range → Range → Range → Type 0
 Chosen t b r p = (and_then (λ x. hulled (known_of t r) (known_of t p)) (known_of types.Bool b) ≡ known_of t (if_fits b (of_branches r p))) × (suits t (if_fits b (of_branches r p)) ≡ true)
 
 chosen_is : (t : CellType) (b r p : Range) → suits types.Bool b ≡ true → suits t r ≡ true → suits t p ≡ true → Chosen t b r p
-chosen_is t Unfit r p h l m = (refl, refl)
-chosen_is t (Within i) r p h l m = no h
-chosen_is t NoNumber Unfit p h l m = (refl, refl)
-chosen_is types.Int NoNumber NoNumber p h l m = no l
-chosen_is types.Int NoNumber (Within x) Unfit h l m = (refl, refl)
-chosen_is types.Int NoNumber (Within x) NoNumber h l m = no m
-chosen_is types.Int NoNumber (Within x) (Within y) h l m = (ap (λ z. Some (known.Number z)) (hull_either y x), refl)
-chosen_is types.Bool NoNumber NoNumber Unfit h l m = (refl, refl)
-chosen_is types.Bool NoNumber NoNumber NoNumber h l m = (refl, refl)
-chosen_is types.Bool NoNumber NoNumber (Within y) h l m = no m
-chosen_is types.Bool NoNumber (Within x) p h l m = no l
-chosen_is (types.Enum e) NoNumber NoNumber Unfit h l m = (refl, refl)
-chosen_is (types.Enum e) NoNumber NoNumber NoNumber h l m = (refl, refl)
-chosen_is (types.Enum e) NoNumber NoNumber (Within y) h l m = no m
-chosen_is (types.Enum e) NoNumber (Within x) p h l m = no l
+chosen_is t b r p h l m = grind (arith, hull_either)
 
 -- two truths, of which the second is evaluated by the first
 abbrev Logic : Range → Range → Type 0
@@ -185,11 +132,7 @@ Logic r p =
     × (suits types.Bool (no_number r p) ≡ true)
 
 logic_is : (r p : Range) → suits types.Bool r ≡ true → suits types.Bool p ≡ true → Logic r p
-logic_is Unfit p h l = (refl, refl, refl)
-logic_is (Within x) p h l = no h
-logic_is NoNumber Unfit h l = (refl, refl, refl)
-logic_is NoNumber NoNumber h l = (refl, refl, refl)
-logic_is NoNumber (Within y) h l = no l
+logic_is r p h l = grind arith
 
 -- a number has an interval, and another value none
 pub suits_on : (c : Setting) (q : Query) (around : Around) (ds : List DeclaredField) → Narrows q ds → (e : Expr) (t : CellType) → typed q around e ≡ Ok t → suits t (range_on q ds e) ≡ true
@@ -228,9 +171,7 @@ range_suits c q around e t h = suits_on c q around q.fields (as_declared q) e t 
 
 -- a truth that fits is found
 truth_found : (r : Range) → suits types.Bool r ≡ true → fits r ≡ true → is_some (known_of types.Bool r) ≡ true
-truth_found Unfit h l = no l
-truth_found NoNumber h l = refl
-truth_found (Within i) h l = no h
+truth_found r h l = grind arith
 
 tested_truth : (c : Setting) (q : Query) (around : Around) (ds : List DeclaredField) → Narrows q ds → (a : ℕ) (e : Expr) → typed q around e ≡ Ok types.Bool → (t : FieldTest) → test_of q a e ≡ Some t → is_some (known_of types.Bool (range_on q ds e)) ≡ true
 tested_truth c q around ds n a e h t l = truth_found (range_on q ds e) (suits_on c q around ds n e types.Bool h) (tested_fits q ds a e t l)
@@ -251,17 +192,7 @@ number_typed q around a e n t h =
 
 -- what stands on the left of a number
 left_of_number : (op : Op) (o : Comparison) (t u w : CellType) → comparison_of op ≡ Some o → op_ty op t u ≡ Ok w → types.Int ≡ u → t ≡ types.Int
-left_of_number Add o t u w h l e = none≢some h
-left_of_number Sub o t u w h l e = none≢some h
-left_of_number Mul o t u w h l e = none≢some h
-left_of_number Div o t u w h l e = none≢some h
-left_of_number Rem o t u w h l e = none≢some h
-left_of_number Eq o t u w h l e = ty_is t u (wanted_is _ types.Bool w l).0 ∙ sym e
-left_of_number Ne o t u w h l e = ty_is t u (wanted_is _ types.Bool w l).0 ∙ sym e
-left_of_number Lt o t u w h l e = ty_is t types.Int (and_parts (is_type t types.Int) (is_type u types.Int) (wanted_is _ types.Bool w l).0).0
-left_of_number Le o t u w h l e = ty_is t types.Int (and_parts (is_type t types.Int) (is_type u types.Int) (wanted_is _ types.Bool w l).0).0
-left_of_number Gt o t u w h l e = ty_is t types.Int (and_parts (is_type t types.Int) (is_type u types.Int) (wanted_is _ types.Bool w l).0).0
-left_of_number Ge o t u w h l e = ty_is t types.Int (and_parts (is_type t types.Int) (is_type u types.Int) (wanted_is _ types.Bool w l).0).0
+left_of_number op o t u w h l e = grind (arith, ty_is, wanted_is)
 
 pub tested_int : (q : Query) (around : Around) (a : ℕ) (e : Expr) (u : CellType) (t : FieldTest) → test_of q a e ≡ Some t → typed q around e ≡ Ok u → FieldHas q around t.field types.Int
 tested_int q around a e u t h =

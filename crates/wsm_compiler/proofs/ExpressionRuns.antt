@@ -15,7 +15,6 @@ use Rattle.wsm_machine.specs.declared.outcome.Trap.TheVariants.{Underflow, Stack
 use Rattle.wsm_program.specs.Instructions.{may_stand, passes}
 use Rattle.wsm_machine.specs.Step.{Setting, State, Next, Goes, cell_of, overflows, push_on, step, unless}
 use Rattle.wsm_record.specs.Schema.{FieldType}
-use Rattle.wsm_record.specs.Schema as field_types
 use Rattle.wsm_query.specs.Tree.{Query, Expr, Number, Truth, Field, EnumName, Key, KeyName, Count, Aggregate, If, Brackets, Minus, Not, Binary, And, Or}
 use Rattle.wsm_check.specs.Names.{place_of, field_names, field_place, type_of, names_of}
 use Rattle.wsm_record.specs.declared.words.CellType.{CellType}
@@ -57,19 +56,12 @@ split section (x ∷ xs) ys k h =
     ((h.0, rest.0), stands_moved section ys (k + 1 + length xs) (k + suc (length xs)) e rest.1)
 
 pub split_code : (q : Query) (section : List Instr) (k a : ℕ) (e : Expr) (ys : List Instr) → StandsAt section k (code q k a e ++ ys) → StandsAt section k (code q k a e) × StandsAt section (k + size q a e) ys
-split_code q section k a e ys h =
-    let parts = split section (code q k a e) ys k h in
-    (parts.0, stands_moved section ys (k + length (code q k a e)) (k + size q a e) (ap (λ n. k + n) (length-code q k a e)) parts.1)
+split_code q section k a e ys h = grind (arith, split, stands_moved, length-code)
 
 -- a test, where it has code, and what stands behind it
 pub split_test : (q : Query) (section : List Instr) (k a : ℕ) (e : Expr) (ys : List Instr) → StandsAt section k (test_code (test_of q a e) (code q k a e) ++ ys) →
     (test_of q a e ≡ None → StandsAt section k (code q k a e)) × StandsAt section (k + unless_tested (test_of q a e) (size q a e)) ys
-split_test q section k a e ys h =
-    let is = code q k a e in
-    let w = test_of q a e in
-    let parts = split section (test_code w is) ys k h in
-    let l = length-test_code w is (size q a e) (length-code q k a e) in
-    (λ none. subst (λ w. StandsAt section k (test_code w is)) none parts.0, stands_moved section ys (k + length (test_code w is)) (k + unless_tested w (size q a e)) (ap (λ n. k + n) l) parts.1)
+split_test q section k a e ys h = grind (arith, split, length-test_code, length-code, stands_moved)
 
 -- ---- what is read
 
@@ -90,24 +82,11 @@ read_gives c k stack folds room i types.Bool (Truth' v) b h at l e =
 read_gives c k stack folds room i (types.Enum d) (Enum n) b h at l e =
     run_goes c (state k stack folds) (state (k + 1) (cells.Enum d n ∷ stack) folds) i at
     (e ∙ step_is b (nat_lt (length stack) 0) false (nat_lt 31 (length stack)) (Goes (state (k + 1) (cells.Enum d n ∷ stack) folds)) l (not_under (length stack)) (has_room (length stack) room))
-read_gives c k stack folds room i types.Int (Truth' v) b h at l e = no h
-read_gives c k stack folds room i types.Int (Enum n) b h at l e = no h
-read_gives c k stack folds room i types.Bool (Int n) b h at l e = no h
-read_gives c k stack folds room i types.Bool (Enum n) b h at l e = no h
-read_gives c k stack folds room i (types.Enum d) (Int n) b h at l e = no h
-read_gives c k stack folds room i (types.Enum d) (Truth' v) b h at l e = no h
+read_gives c k stack folds room i t v b h at l e = no h
 
 -- a field's value as the machine holds it
 field_cell : (f : ℕ) (ty : FieldType) (v : Value) → of_ty (declared_ty f ty) (Some v) ≡ true → cell_of (f + 1) v ≡ cell (declared_ty f ty) v
-field_cell f (field_types.Int lo hi) (Int n) h = refl
-field_cell f (field_types.Int lo hi) (Truth' b) h = no h
-field_cell f (field_types.Int lo hi) (Enum i) h = no h
-field_cell f field_types.Truth (Int n) h = no h
-field_cell f field_types.Truth (Truth' b) h = refl
-field_cell f field_types.Truth (Enum i) h = no h
-field_cell f (field_types.Enum names) (Int n) h = no h
-field_cell f (field_types.Enum names) (Truth' b) h = no h
-field_cell f (field_types.Enum names) (Enum i) h = let e : f + 1 ≡ suc f = omega arith in ap (λ d. cells.Enum d i) e
+field_cell f ty v h = grind arith
 
 -- an accumulator's
 folded_cell : (kind : Kind) (v : Value) → of_ty (kind_type kind) (Some v) ≡ true → cell_of 0 v ≡ cell (kind_type kind) v

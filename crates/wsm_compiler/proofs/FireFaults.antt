@@ -1,15 +1,11 @@
 -- FIRE has a fault exactly where a range of a column or of HAVING doesn't fit, where those of all aggregates do.
-use Rattle.std.proofs.Common.{◌≡◌, ℕ, zero, suc, ◌+◌, ◌≤◌, true, false, ◌&&◌, not, cond, List, [], ◌∷◌, ◌++◌, map, reverse, Option, Some, None, refl, sym, ap, subst, ◌∙◌, arith, append-nil}
-use Rattle.std.specs.Prelude.{ℤ, ◌*ℤ◌, is_some, slice_get, slice_index_or}
+use Rattle.std.proofs.Common.{◌≡◌, ℕ, zero, suc, ◌≤◌, true, ◌&&◌, not, List, [], ◌∷◌, ◌++◌, map, reverse, Option, Some, refl, sym, ap, subst, ◌∙◌, arith, append-nil}
+use Rattle.std.specs.Prelude.{ℤ, is_some, slice_get, slice_index_or}
 use Rattle.std.specs.List.{flat_map}
 use Rattle.std.proofs.lemmas.Grind.{flat_map-append}
-use Rattle.std.specs.Int.{int_min, int_max}
 use Rattle.std.proofs.lemmas.Option.{same_Some}
 use Rattle.std.proofs.lemmas.Bool.{and_parts}
 use Rattle.wsm_record.specs.declared.words.Kind.{Kind}
-use Rattle.wsm_record.specs.declared.words.Kind.TheVariants.{Sum, Min, Max, Any, All}
-use Rattle.wsm_interval.specs.Interval.{interval}
-use Rattle.wsm_record.specs.Schema.{is_i64}
 use Rattle.wsm_program.specs.declared.SectionId.TheVariants.{Fire}
 use Rattle.wsm_program.specs.declared.program.Costs.{Costs}
 use Rattle.wsm_query.specs.Tree.{Query, Expr}
@@ -17,13 +13,12 @@ use Rattle.wsm_record.specs.Types.{kind_type}
 use Rattle.wsm_check.specs.declared.types.Around.TheVariants.{InColumn, InAggregate}
 use Rattle.wsm_check.specs.Aggregates.{Acc, accumulators, accumulators_of, in_option}
 use Rattle.wsm_rules.specs.declared.known.Known.{Known}
-use Rattle.wsm_rules.specs.declared.known.Known.TheVariants.{Number, Truth}
+use Rattle.wsm_rules.specs.declared.known.Known.TheVariants.{Truth}
 use Rattle.wsm_rules.specs.Labels.{Visit}
 use Rattle.wsm_rules.specs.Rules.{Setting, setting, entry, and_then, accumulated, known_range, known_accumulators, ranges_of_pane, update_visits, column_known, fault_in}
-use Rattle.wsm_compiler.specs.Ranges.{Range, Unfit, NoNumber, Within, of_aggregate, range, fits}
+use Rattle.wsm_compiler.specs.Ranges.{Range, of_aggregate, range, fits}
 use Rattle.wsm_check.specs.Parts.{aggregates_of, column_type}
 use Rattle.wsm_compiler.specs.Program.{program_stating}
-use Rattle.wsm_machine.proofs.FittingStacks.{no}
 use Rattle.wsm_compiler.proofs.Parts.{none≢some}
 use Rattle.wsm_compiler.proofs.FoundRanges.{suits, known_of}
 use Rattle.wsm_compiler.proofs.ExpressionRanges.{Accs, range_suits}
@@ -38,31 +33,10 @@ use Rattle.wsm_compiler.proofs.Folded.{interval_of, ValuesAt, all_values}
 -- what ACC pushes is told of by the aggregate's range
 aggregate_known : (n : ℤ) (kind : Kind) (r : Range) → suits (kind_type kind) r ≡ true → fits (of_aggregate n kind r) ≡ true →
     Some (known_range (and_then (accumulated n kind) (interval_of r))) ≡ known_of (kind_type kind) (of_aggregate n kind r)
-aggregate_known n Sum Unfit h l = no l
-aggregate_known n Sum NoNumber h l = no h
-aggregate_known n Sum (Within x) h l =
-    elim (is_i64 (n *ℤ x.lo) && is_i64 (n *ℤ x.hi)) as
-    (λ a. fits (cond a (Within (interval (int_min x.lo (n *ℤ x.lo)) (int_max x.hi (n *ℤ x.hi)))) Unfit) ≡ true →
-    Some (Number (interval (int_min x.lo (n *ℤ x.lo)) (int_max x.hi (n *ℤ x.hi)))) ≡ known_of (kind_type Sum) (cond a (Within (interval (int_min x.lo (n *ℤ x.lo)) (int_max x.hi (n *ℤ x.hi)))) Unfit)) [
-      | true ↦ λ l. refl
-      | false ↦ λ l. no l
-    ] l
-aggregate_known n Min Unfit h l = no l
-aggregate_known n Min NoNumber h l = no h
-aggregate_known n Min (Within x) h l = refl
-aggregate_known n Max Unfit h l = no l
-aggregate_known n Max NoNumber h l = no h
-aggregate_known n Max (Within x) h l = refl
-aggregate_known n Any Unfit h l = no l
-aggregate_known n Any NoNumber h l = refl
-aggregate_known n Any (Within x) h l = no h
-aggregate_known n All Unfit h l = no l
-aggregate_known n All NoNumber h l = refl
-aggregate_known n All (Within x) h l = no h
+aggregate_known n kind r h l = grind (arith, known_of)
 
 flat_option : (o : Option Expr) → flat_map accumulators_of (in_option o) ≡ in_condition o
-flat_option None = refl
-flat_option (Some e) = append-nil (accumulators_of e)
+flat_option o = grind (arith, append-nil)
 
 module _ (q : Query) (b : Costs) where
   abbrev known_from : ℕ → List Acc → List Visit → List Known
@@ -83,10 +57,7 @@ module _ (q : Query) (b : Costs) where
   firing = let p = program_stating q b in setting p Fire (ranges_of_pane p (update_visits p))
 
   pub accs_known : AccsTyped q b (accumulators q) → accs_fit q b (accumulators q) ≡ true → ValuesAt q b 0 (accumulators q) (update_visits (program_stating q b)) → Accs firing q 0 (accumulators q)
-  accs_known h fit values j acc e =
-      let vs = update_visits (program_stating q b) in
-      let first : 0 + j ≡ j = omega arith in
-      ap (λ i. Some (slice_index_or (known_from 0 (accumulators q) vs) i Truth)) first ∙ known_at 0 (accumulators q) vs j acc h fit values e
+  accs_known h fit values j acc e = grind (arith, known_at)
 
   pub accs_are : accumulators q ≡ flat_map accumulators_of q.columns ++ in_condition q.having
   accs_are = flat_map-append accumulators_of q.columns (in_option q.having) ∙ ap (λ zs. flat_map accumulators_of q.columns ++ zs) (flat_option q.having)

@@ -1,38 +1,33 @@
 -- What a firing's row is computed over, after any history: at least one record and at most as many as the clock allows, all of the
 -- firing's key and in range.
-use Rattle.std.proofs.Common.{◌≡◌, ℕ, ◌≤◌, Bool, true, false, ◌&&◌, not, cond, List, [], ◌∷◌, ◌++◌, length, ℤ, Option, Some, None, refl, arith}
+use Rattle.std.proofs.Common.{◌≡◌, ℕ, ◌≤◌, Bool, true, false, ◌&&◌, not, cond, List, [], ◌∷◌, length, ℤ, Option, Some, None, refl, arith}
 use Rattle.std.specs.Prelude.{◌+ℤ◌, filter, filter_map, nat_eq, nat_lt, int_le, int_lt, unsigned_abs}
 use Rattle.std.specs.Option.{IfSome}
 use Rattle.std.specs.List.{AllByRecursion, cons_option, last_or}
-use Rattle.std.proofs.lemmas.Bool.{and_from, eqb-true, and_parts}
+use Rattle.std.proofs.lemmas.Bool.{eqb-true, and_parts}
+use Rattle.wsm_semantics.proofs.Each.{all-append}
 use Rattle.wsm_record.specs.declared.event.Value.{Value}
 use Rattle.wsm_record.specs.declared.words.Mode.{Mode}
-use Rattle.wsm_record.specs.declared.words.Mode.TheVariants.{Discarding, Accumulating, Retracting}
+use Rattle.wsm_record.specs.declared.words.Mode.TheVariants.{Discarding}
 use Rattle.wsm_record.specs.Event.{Event, Record}
 use Rattle.wsm_record.specs.Schema.{fit_fields}
 use Rattle.wsm_windows.specs.declared.window.PaneKind.{PaneKind}
-use Rattle.wsm_windows.specs.declared.window.PaneKind.TheVariants.{Early, OnTime, Late, Final}
+use Rattle.wsm_windows.specs.declared.window.PaneKind.TheVariants.{OnTime, Final}
 use Rattle.wsm_windows.specs.Life.{is_due}
 use Rattle.wsm_windows.specs.declared.place.Place.{Place}
 use Rattle.wsm_windows.specs.Places.{place_cmp, window_of}
 use Rattle.wsm_windows.proofs.Places.{places_exact}
-use Rattle.wsm_admission.specs.Clock.{admitted_count}
 use Rattle.wsm_admission.proofs.Taken.{taken_record, admitted_count-le}
-use Rattle.wsm_semantics.specs.Query.{Query as Meant, Datum, Effect, Selects, Rises, Nothing, effect_of, selection, mark, verdict_on, selection_of, selected}
+use Rattle.wsm_semantics.specs.Query.{Query as Meant, Datum, Effect, Selects, Rises, Nothing, effect_of, selection, verdict_on, selection_of, selected}
 use Rattle.wsm_semantics.specs.Panes.{is_there, stands_in, contents, places, with_contents, panes, held}
-use Rattle.wsm_semantics.specs.Firings.{Firing, firing_set, is_enough, kind_on_record, kind_on_watermark, firing_of, fire, holds, is_shown, firings, firings_so_far}
+use Rattle.wsm_semantics.specs.Firings.{Firing, firing_set, kind_on_record, kind_on_watermark, firing_of, fire, holds, is_shown, firings, firings_so_far}
 use Rattle.wsm_semantics.specs.Retractions.{standing_for, withdrawn}
 use Rattle.wsm_semantics.specs.StandingFirings.{candidates, greatest_of, holds_all, standing}
 use Rattle.wsm_semantics.proofs.Effects.{by_effect}
 use Rattle.wsm_semantics.proofs.SelectedRecords.{selected_count}
 use Rattle.wsm_semantics.proofs.Lists.{filter-all, put-all}
 use Rattle.wsm_machine.proofs.SoundFirings.{enough_some}
-use Rattle.wsm_compiler.proofs.Parts.{none≢some}
 use Rattle.wsm_semantics.proofs.ManyKeys.{length-filter}
-
-pub all_joined : {A : Type 0} (P : A → Type 0) (xs ys : List A) → AllByRecursion P xs → AllByRecursion P ys → AllByRecursion P (xs ++ ys)
-all_joined P [] ys h l = l
-all_joined P (x ∷ xs) ys h l = (h.0, all_joined P xs ys h.1 l)
 
 all_found : {A B : Type 0} (P : B → Type 0) (g : A → Option B) (xs : List A) → AllByRecursion (λ x. IfSome (g x) P) xs → AllByRecursion P (filter_map g xs)
 all_found P g [] h = tt
@@ -66,16 +61,14 @@ module _ (m : Meant) where
   -- ---- selected records
 
   pub taken_fits : (past : List Event) (key : ℕ) (time : ℤ) (values : List Value) → verdict_on m past (Record (Some key) time values) ≡ None → (nat_lt key (length m.declared.keys) && fit_fields m.declared.fields values) ≡ true
-  taken_fits past key time values h =
-      let t = taken_record m.clock m.shape m.declared (mark m past) (admitted_count m.clock m.shape m.declared past) (Some key) time values h in
-      and_from (nat_lt key (length m.declared.keys)) (fit_fields m.declared.fields values) t.has_key t.fits
+  taken_fits past key time values h = grind (arith, taken_record)
 
   one_fits : (e : Event) (past : List Event) → AllByRecursion Fits (selection_of m past e)
   one_fits e past = by_effect m past (λ e x. AllByRecursion Fits (selection x)) (λ key time values taken _. (taken_fits past key time values taken, tt)) (λ o t _. tt) (λ e _. tt) e
 
   all_fit : (past : List Event) → AllByRecursion Fits (selected m past)
   all_fit [] = tt
-  all_fit (e ∷ past) = all_joined Fits (selection_of m past e) (selected m past) (one_fits e past) (all_fit past)
+  all_fit (e ∷ past) = all-append Fits (selection_of m past e) (selected m past) (one_fits e past) (all_fit past)
 
   -- ---- panes
 
@@ -97,11 +90,7 @@ module _ (m : Meant) where
   at_most a b c d h i j = omega (arith, h, i, j)
 
   contents_are : (past : List Event) (p : Place) → AreOf p (contents m past p)
-  contents_are past p = record {
-    same = keys_there p (selected m past);
-    few = at_most (length (contents m past p)) (length (selected m past)) (admitted_count m.clock m.shape m.declared past) (unsigned_abs m.clock.records) (length-filter (is_there m p) (selected m past)) (selected_count m past) (admitted_count-le m.clock m.shape m.declared past);
-    each = filter-all Fits (is_there m p) (selected m past) (all_fit past);
-  }
+  contents_are past p = grind (arith, keys_there, at_most, length-filter, selected_count, admitted_count-le, filter-all, all_fit)
 
   abbrev IsPaneOf : Place × List Datum → Type 0
   IsPaneOf e = AreOf e.0 e.1
@@ -126,25 +115,17 @@ module _ (m : Meant) where
 
   -- all records of a pane, or those that weren't shown
   set_of : (mode : Mode) (p : Place) (t : Datum → Bool) (all : List Datum) → AreOf p all → 1 ≤ length (firing_set mode all (filter t all)) → IsFiringSet p.key (firing_set mode all (filter t all))
-  set_of Accumulating p t all h some = record { same = h.same; some = some; few = h.few; each = h.each }
-  set_of Retracting p t all h some = record { same = h.same; some = some; few = h.few; each = h.each }
   set_of Discarding p t all h some = let f = part_of p t all h in record { same = f.same; some = some; few = f.few; each = f.each }
+  set_of mode p t all h some = record { same = h.same; some = some; few = h.few; each = h.each }
 
   some_unshown : (mode : Mode) (t : Datum → Bool) (all : List Datum) → 1 ≤ length (filter t all) → 1 ≤ length (firing_set mode all (filter t all))
-  some_unshown Accumulating t all h = let l = length-filter t all in omega (arith, l, h)
-  some_unshown Retracting t all h = let l = length-filter t all in omega (arith, l, h)
-  some_unshown Discarding t all h = h
+  some_unshown mode t all h = grind (arith, length-filter)
 
   chosen : (b : Bool) (k : PaneKind) (x : PaneKind) → cond b (Some k) None ≡ Some x → b ≡ true
-  chosen true k x h = refl
-  chosen false k x h = none≢some h
+  chosen b k x h = grind arith
 
   on_record : (w end : ℤ) (unshown : ℕ) (k : PaneKind) → kind_on_record m w end unshown ≡ Some k → 1 ≤ unshown
-  on_record w end unshown k h =
-      elim (int_lt w end) as (λ b. cond b (cond (is_enough m.early unshown) (Some Early) None) (cond (is_enough m.late unshown) (Some Late) None) ≡ Some k → 1 ≤ unshown) [
-        | true ↦ λ h. enough_some m.early unshown (chosen (is_enough m.early unshown) Early k h)
-        | false ↦ λ h. enough_some m.late unshown (chosen (is_enough m.late unshown) Late k h)
-      ] h
+  on_record w end unshown k h = grind (arith, enough_some, chosen)
 
   on_watermark : (due final : Bool) (set unshown : ℕ) (k : PaneKind) → cond (due && nat_lt 0 set) (Some OnTime) (cond (final && nat_lt 0 unshown) (Some Final) None) ≡ Some k → (1 ≤ unshown → 1 ≤ set) → 1 ≤ set
   on_watermark due final set unshown k h more = by_test (due && nat_lt 0 set) refl h
@@ -154,12 +135,10 @@ module _ (m : Meant) where
       by_test false e h = more (at_least unshown (and_parts final (nat_lt 0 unshown) (chosen (final && nat_lt 0 unshown) Final k h)).1)
 
   fired : (turn : ℕ) (p : Place) (all set : List Datum) (o : Option PaneKind) → ((k : PaneKind) → o ≡ Some k → IsFiringSet p.key set) → IfSome (firing_of turn p all set o) IsOfSet
-  fired turn p all set None h = tt
-  fired turn p all set (Some k) h = h k refl
+  fired turn p all set o h = grind arith
 
   passes : (b : Bool) (o : Option PaneKind) (k : PaneKind) → cond b o None ≡ Some k → o ≡ Some k
-  passes true o k h = h
-  passes false o k h = none≢some h
+  passes b o k h = grind arith
 
   one_fires : (shown : Datum → Bool) (turn : ℕ) (x : Effect) (p : Place) (all : List Datum) → AreOf p all → IfSome (fire shown m turn x p all) IsOfSet
   one_fires shown turn (Selects d) p all h =
@@ -186,7 +165,7 @@ module _ (m : Meant) where
 
   pub so_far_of_sets : (past : List Event) → AllByRecursion IsOfSet (firings_so_far m past)
   so_far_of_sets [] = tt
-  so_far_of_sets (e ∷ past) = all_joined IsOfSet (firings_so_far m past) (firings m past e) (so_far_of_sets past) (firings_of_sets past e)
+  so_far_of_sets (e ∷ past) = all-append IsOfSet (firings_so_far m past) (firings m past e) (so_far_of_sets past) (firings_of_sets past e)
 
   -- the firing that stands for a place is one of them
   last_is : (o : Option Firing) (fs : List Firing) → IfSome o IsOfSet → AllByRecursion IsOfSet fs → IfSome (last_or o fs) IsOfSet

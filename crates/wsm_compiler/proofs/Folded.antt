@@ -51,13 +51,10 @@ not_fold (instr.Fold a) = false
 not_fold i = true
 
 value_none : (b : ℕ) (i : Instr) (l : Label) → not_fold i ≡ true → value_folded b i l ≡ None
-value_none b (instr.Fold a) l h = no h
-value_none b i l h = refl
+value_none b i l h = grind arith
 
 none_both : (x y : Option Interval) → hull_options x y ≡ None → (x ≡ None) × (y ≡ None)
-none_both None y h = (refl, h)
-none_both (Some x) None h = let tag : Option Interval → Bool = λ o. elim o [ None ↦ false | Some z ↦ true ] in no (ap tag (sym h))
-none_both (Some x) (Some y) h = let tag : Option Interval → Bool = λ o. elim o [ None ↦ false | Some z ↦ true ] in no (ap tag (sym h))
+none_both x y h = grind arith
 
 none_in_front : (b : ℕ) (vs ws : List Visit) → values_folded b vs ≡ None → values_folded b (vs ++ ws) ≡ values_folded b ws
 none_in_front b [] ws h = refl
@@ -82,17 +79,14 @@ all_both (i ∷ is) js h l = let p = and_parts (not_fold i) (list_all not_fold i
 
 -- neither the code of a test nor the jump of a choice folds
 test_folds_none : (t : Option FieldTest) (is : List Instr) → list_all not_fold is ≡ true → list_all not_fold (test_code t is) ≡ true
-test_folds_none None is h = h
-test_folds_none (Some t) is h = refl
+test_folds_none t is h = grind arith
 
 jump_folds_none : (t : Option FieldTest) (n : ℕ) → not_fold (jump_unless t n) ≡ true
-jump_folds_none None n = refl
-jump_folds_none (Some t) n = refl
+jump_folds_none t n = grind arith
 
 chosen_folds_none : (t : Option FieldTest) (test : List Instr) (k : ℕ) (first : List Instr) (m : ℕ) (second : List Instr) (n : ℕ) → list_all not_fold test ≡ true → list_all not_fold first ≡ true → list_all not_fold second ≡ true →
     list_all not_fold (test_code t test ++ choice (jump_unless t) k first m second n) ≡ true
-chosen_folds_none t test k first m second n h l l' =
-    all_both (test_code t test) (choice (jump_unless t) k first m second n) (test_folds_none t test h) (λ i. jump_folds_none t (k + m + 1) i && all_both first (instr.Jump (k + m + 1 + n) ∷ second) l l' i)
+chosen_folds_none t test k first m second n h l l' = grind (arith, all_both, test_folds_none, jump_folds_none)
 
 code_folds_none : (k : ℕ) (t : Term) → list_all not_fold (term_code k t) ≡ true
 code_folds_none k (If c x y) =
@@ -115,9 +109,8 @@ code_folds_none k t = refl
 -- ---- the value of an operand
 
 abbrev pub interval_of : Range → Option Interval
-interval_of Unfit = None
-interval_of NoNumber = None
 interval_of (Within i) = Some i
+interval_of x = None
 
 -- it is known, it is of the range, and its accumulator takes it
 record Value (n : ℤ) (kind : Kind) (r : Range) : Type 0 where
@@ -204,8 +197,7 @@ module _ (q : Query) (b : Costs) where
       fold_at d y h = ap (λ v. values_folded d (v ∷ [])) l ∙ ap (λ z. hull_options (cond z (last_number (value ∷ [])) None) None) h
 
       alone : (o : Option Interval) → hull_options o None ≡ o
-      alone None = refl
-      alone (Some i) = refl
+      alone o = grind arith
 
       put_together : last_number (value ∷ []) ≡ interval_of (range q x) → ((d : ℕ) → d < suc a → values_folded d new2 ≡ None) × ValuesAt (suc a) accs new2 → Folded e k a (acc ∷ accs) vs
       put_together is h = (

@@ -1,10 +1,9 @@
 -- What the verifier finds of an expression, by its structure: none where a place of its code has a fault.
-use Rattle.std.proofs.Common.{◌≡◌, ℕ, suc, ◌+◌, ◌<◌, Bool, true, ◌&&◌, cond, List, [], ◌∷◌, ◌++◌, length, Option, Some, None, refl, sym, ap, subst}
-use Rattle.std.specs.Prelude.{pos, ◌-ℤ◌, int_div, unsigned_abs, is_none, option_map, slice_index_or, slice_set}
-use Rattle.std.specs.Int.{int_max}
+use Rattle.std.proofs.Common.{◌≡◌, ℕ, suc, ◌+◌, ◌<◌, Bool, true, ◌&&◌, cond, List, [], ◌∷◌, ◌++◌, length, Option, Some, None, refl, sym, subst, arith}
+use Rattle.std.specs.Prelude.{is_none, option_map, slice_index_or, slice_set}
 use Rattle.std.proofs.lemmas.Option.{same_Some}
 use Rattle.wsm_interval.specs.declared.interval.Interval.{Interval}
-use Rattle.wsm_interval.specs.Interval.{interval, around, rem_within, div, rem}
+use Rattle.wsm_interval.specs.Interval.{interval, div, rem}
 use Rattle.wsm_program.specs.declared.instr.FieldTest.{FieldTest}
 use Rattle.wsm_program.specs.declared.instr.Instr.{Instr}
 use Rattle.wsm_program.specs.declared.instr.Instr.TheVariants as instr
@@ -28,9 +27,8 @@ use Rattle.wsm_compiler.proofs.Tests.{stacked, with_known, pushed_on, acting}
 use Rattle.wsm_compiler.proofs.Choices.{hulled}
 
 abbrev pub head_of : Option (List Known) → Option Known
-head_of None = None
-head_of (Some []) = None
 head_of (Some (x ∷ xs)) = Some x
+head_of x = None
 
 -- what an instruction makes of its operands, and of nothing else
 abbrev pub of_instr : Setting → Instr → List Known → Option Known
@@ -76,37 +74,20 @@ found c q fs a (Or x y) = and_then (λ b. hulled (Some known.Truth) (found c q (
 -- ---- one instruction, with its operands on the stack
 
 numbers_alone : (o : Option Interval) → option_map (λ z. known.Number z ∷ []) o ≡ option_map (λ x. x ∷ []) (head_of (option_map (λ z. known.Number z ∷ []) o))
-numbers_alone None = refl
-numbers_alone (Some z) = refl
+numbers_alone o = grind arith
 
 two_alone : (f : Interval → Interval → Option Interval) (v u : Known) (s : List Known) → of_two f (v ∷ u ∷ s) ≡ option_map (λ x. x ∷ []) (head_of (of_two f (v ∷ u ∷ [])))
-two_alone f (known.Number y) (known.Number x) s = numbers_alone (f x y)
-two_alone f (known.Number y) known.Truth s = refl
-two_alone f (known.Number y) (known.NameOf e) s = refl
-two_alone f known.Truth u s = refl
-two_alone f (known.NameOf e) u s = refl
+two_alone f v u s = grind (arith, numbers_alone)
 
 one_alone : (f : Interval → Option Interval) (v : Known) (s : List Known) → of_one f (v ∷ s) ≡ option_map (λ x. x ∷ []) (head_of (of_one f (v ∷ [])))
-one_alone f (known.Number x) s = numbers_alone (f x)
-one_alone f known.Truth s = refl
-one_alone f (known.NameOf e) s = refl
+one_alone f v s = grind (arith, numbers_alone)
 
 -- where the divisor may be 0 there is no interval
 zero_div : (v u : Known) → has_zero u v ≡ true → is_none (head_of (of_two div (v ∷ u ∷ []))) ≡ true
-zero_div (known.Number y) (known.Number x) h =
-    ap (λ b. is_none (head_of (option_map (λ z. known.Number z ∷ []) (cond b None (around (int_div x.lo y.lo) (int_div x.lo y.hi) (int_div x.hi y.lo) (int_div x.hi y.hi)))))) h
-zero_div (known.Number y) known.Truth h = refl
-zero_div (known.Number y) (known.NameOf e) h = refl
-zero_div known.Truth u h = no h
-zero_div (known.NameOf e) u h = no h
+zero_div v u h = grind arith
 
 zero_rem : (v u : Known) → has_zero u v ≡ true → is_none (head_of (of_two rem (v ∷ u ∷ []))) ≡ true
-zero_rem (known.Number y) (known.Number x) h =
-    ap (λ b. is_none (head_of (option_map (λ z. known.Number z ∷ []) (cond b None (rem_within (int_max (pos (unsigned_abs y.lo)) (pos (unsigned_abs y.hi)) -ℤ pos 1) x))))) h
-zero_rem (known.Number y) known.Truth h = refl
-zero_rem (known.Number y) (known.NameOf e) h = refl
-zero_rem known.Truth u h = no h
-zero_rem (known.NameOf e) u h = no h
+zero_rem v u h = grind arith
 
 module _ (e : State) (c : Setting) (k : ℕ) (s : State) (room : length s.stack < 32) (more : suc k < c.n) where
   abbrev Makes : Instr → List Known → Type 0

@@ -1,5 +1,5 @@
 -- What edges carry to one place, put together in any groups.
-use Rattle.std.proofs.Common.{◌≡◌, ℕ, Bool, true, false, ◌&&◌, cond, List, [], ◌∷◌, ◌++◌, refl, sym, ap, subst, ◌∙◌, arith}
+use Rattle.std.proofs.Common.{◌≡◌, ℕ, Bool, true, false, ◌&&◌, cond, List, [], ◌∷◌, ◌++◌, refl, sym, ap, subst, arith}
 use Rattle.std.proofs.lemmas.Bool.{and_from, and_parts}
 use Rattle.std.proofs.lemmas.Int.{ints, clamps}
 use Rattle.std.specs.Prelude.{ℤ, nat_eq}
@@ -7,7 +7,6 @@ use Rattle.std.specs.Int.{int_min, int_max}
 use Rattle.wsm_interval.specs.declared.interval.Interval.{Interval}
 use Rattle.wsm_interval.specs.Interval.{interval, hull}
 use Rattle.wsm_rules.specs.declared.known.Known.{Known}
-use Rattle.wsm_rules.specs.declared.known.Known.TheVariants.{Number, Truth, NameOf}
 use Rattle.wsm_rules.specs.Labels.{State, Label, Unreached, Differing, Reached, same_type, same_types, same_flags, agree, hull_known, hull_lists, hull_states, label_with, hull_all}
 use Rattle.wsm_semantics.proofs.Each.{itself}
 use Rattle.wsm_machine.proofs.FittingStacks.{no}
@@ -41,18 +40,14 @@ hull_groups : (x y z : Interval) → hull x (hull y z) ≡ hull (hull x y) z
 hull_groups x y z = (λ i. interval (min_groups x.lo y.lo z.lo i) (max_groups x.hi y.hi z.hi i))
 
 pub known_self : (x : Known) → hull_known x x ≡ x
-known_self (Number x) = ap Number (hull_self x)
-known_self Truth = refl
-known_self (NameOf e) = refl
+known_self x = grind (arith, hull_self)
 
 pub stack_self : (xs : List Known) → hull_lists xs xs ≡ xs
 stack_self [] = refl
 stack_self (x ∷ xs) = (λ i. known_self x i ∷ stack_self xs i)
 
 pub type_self : (x : Known) → same_type x x ≡ true
-type_self (Number x) = refl
-type_self Truth = refl
-type_self (NameOf e) = itself e
+type_self x = grind (arith, itself)
 
 pub types_self : (xs : List Known) → same_types xs xs ≡ true
 types_self [] = refl
@@ -70,55 +65,31 @@ same_number d e f h l = grind arith
 
 -- the second of three that the first and the third agree with
 type_of_hull : (x y z : Known) → same_type x y ≡ true → same_type (hull_known x y) z ≡ true → same_type y z ≡ true
-type_of_hull (Number x) (Number y) z h l = l
-type_of_hull (Number x) Truth z h l = no h
-type_of_hull (Number x) (NameOf e) z h l = no h
-type_of_hull Truth (Number y) z h l = no h
-type_of_hull Truth Truth z h l = l
-type_of_hull Truth (NameOf e) z h l = no h
-type_of_hull (NameOf d) (Number y) z h l = no h
-type_of_hull (NameOf d) Truth z h l = no h
-type_of_hull (NameOf d) (NameOf e) (Number z) h l = no l
-type_of_hull (NameOf d) (NameOf e) Truth h l = no l
-type_of_hull (NameOf d) (NameOf e) (NameOf f) h l = same_number d e f h l
+type_of_hull x y z h l = grind (arith, same_number)
 
 type_with_hull : (x y z : Known) → same_type x y ≡ true → same_type y z ≡ true → same_type x (hull_known y z) ≡ true
-type_with_hull (Number x) (Number y) (Number z) h l = refl
-type_with_hull (Number x) (Number y) Truth h l = refl
-type_with_hull (Number x) (Number y) (NameOf e) h l = refl
-type_with_hull x Truth z h l = h
-type_with_hull x (NameOf e) z h l = h
-type_with_hull Truth (Number y) z h l = no h
-type_with_hull (NameOf d) (Number y) z h l = no h
+type_with_hull x y z h l = grind arith
 
 known_groups : (x y z : Known) → same_type x y ≡ true → same_type y z ≡ true → hull_known x (hull_known y z) ≡ hull_known (hull_known x y) z
-known_groups (Number x) (Number y) (Number z) h l = ap Number (hull_groups x y z)
-known_groups (Number x) (Number y) Truth h l = no l
-known_groups (Number x) (Number y) (NameOf e) h l = no l
-known_groups (Number x) Truth z h l = no h
-known_groups (Number x) (NameOf e) z h l = no h
-known_groups Truth y z h l = refl
-known_groups (NameOf d) y z h l = refl
+known_groups x y z h l = grind (arith, hull_groups)
 
 types_of_hull : (xs ys zs : List Known) → same_types xs ys ≡ true → same_types (hull_lists xs ys) zs ≡ true → same_types ys zs ≡ true
 types_of_hull [] [] zs h l = l
-types_of_hull [] (y ∷ ys) zs h l = no h
-types_of_hull (x ∷ xs) [] zs h l = no h
 types_of_hull (x ∷ xs) (y ∷ ys) [] h l = no l
 types_of_hull (x ∷ xs) (y ∷ ys) (z ∷ zs) h l =
     let a = and_parts (same_type x y) (same_types xs ys) h in
     let b = and_parts (same_type (hull_known x y) z) (same_types (hull_lists xs ys) zs) l in
     and_from (same_type y z) (same_types ys zs) (type_of_hull x y z a.0 b.0) (types_of_hull xs ys zs a.1 b.1)
+types_of_hull xs ys zs h l = no h
 
 types_with_hull : (xs ys zs : List Known) → same_types xs ys ≡ true → same_types ys zs ≡ true → same_types xs (hull_lists ys zs) ≡ true
 types_with_hull [] [] zs h l = refl
-types_with_hull [] (y ∷ ys) zs h l = no h
-types_with_hull (x ∷ xs) [] zs h l = no h
 types_with_hull (x ∷ xs) (y ∷ ys) [] h l = no l
 types_with_hull (x ∷ xs) (y ∷ ys) (z ∷ zs) h l =
     let a = and_parts (same_type x y) (same_types xs ys) h in
     let b = and_parts (same_type y z) (same_types ys zs) l in
     and_from (same_type x (hull_known y z)) (same_types xs (hull_lists ys zs)) (type_with_hull x y z a.0 b.0) (types_with_hull xs ys zs a.1 b.1)
+types_with_hull xs ys zs h l = no h
 
 stack_groups : (xs ys zs : List Known) → same_types xs ys ≡ true → same_types ys zs ≡ true → hull_lists xs (hull_lists ys zs) ≡ hull_lists (hull_lists xs ys) zs
 stack_groups [] ys zs h l = refl
@@ -142,16 +113,10 @@ agree_of_hull s t u h l =
     agreeing t u (types_of_hull s.stack t.stack u.stack a.stacks b.stacks) flags (types_of_hull s.fields t.fields u.fields a.fields b.fields)
 
 agree_with_hull : (s t u : State) → agree s t ≡ true → agree t u ≡ true → agree s (hull_states t u) ≡ true
-agree_with_hull s t u h l =
-    let a = agreed s t h in
-    let b = agreed t u l in
-    agreeing s (hull_states t u) (types_with_hull s.stack t.stack u.stack a.stacks b.stacks) a.flags (types_with_hull s.fields t.fields u.fields a.fields b.fields)
+agree_with_hull s t u h l = grind (arith, agreed, agreeing, types_with_hull)
 
 states_groups : (s t u : State) → agree s t ≡ true → agree t u ≡ true → hull_states s (hull_states t u) ≡ hull_states (hull_states s t) u
-states_groups s t u h l =
-    let a = agreed s t h in
-    let b = agreed t u l in
-    (λ i. record { stack = stack_groups s.stack t.stack u.stack a.stacks b.stacks i; folded = s.folded; fields = stack_groups s.fields t.fields u.fields a.fields b.fields i })
+states_groups s t u h l = grind (arith, agreed, stack_groups)
 
 -- ---- one state more
 
@@ -168,26 +133,14 @@ is_unreached Unreached = true
 is_unreached _ = false
 
 never_unreached : (s : State) (l : Label) → is_unreached (label_with s l) ≡ false
-never_unreached s Unreached = refl
-never_unreached s Differing = refl
-never_unreached s (Reached t) = elim (agree s t) as (λ b. is_unreached (cond b (Reached (hull_states s t)) Differing) ≡ false) [ true ↦ refl | false ↦ refl ]
+never_unreached s l = grind arith
 
 hull_reached : (s t : State) → agree s t ≡ true → label_with s (Reached t) ≡ Reached (hull_states s t)
 hull_reached s t h = ap (λ b. cond b (Reached (hull_states s t)) Differing) h
 
 -- a state before others, where they are known with one more
 before_others : (s u t : State) (l m : Label) → is_unreached l ≡ false → label_with s l ≡ Reached u → agree u t ≡ true → ((w : State) → l ≡ Reached w → agree w t ≡ true → m ≡ Reached (hull_states w t)) → label_with s m ≡ Reached (hull_states u t)
-before_others s u t Unreached m n e a go = no (sym n)
-before_others s u t Differing m n e a go = no (ap is_reached e)
-before_others s u t (Reached w) m n e a go =
-    elim (agree s w) as (λ b. agree s w ≡ b → cond b (Reached (hull_states s w)) Differing ≡ Reached u → label_with s m ≡ Reached (hull_states u t)) [
-      | true ↦ λ h e.
-          let is : hull_states s w ≡ u = ap (state_or s) e in
-          let a' : agree (hull_states s w) t ≡ true = subst (λ x. agree x t ≡ true) (sym is) a in
-          let b : agree w t ≡ true = agree_of_hull s w t h a' in
-          ap (label_with s) (go w refl b) ∙ hull_reached s (hull_states w t) (agree_with_hull s w t h b) ∙ ap Reached (states_groups s w t h b) ∙ ap (λ x. Reached (hull_states x t)) is
-      | false ↦ λ h e. no (ap is_reached e)
-    ] refl e
+before_others s u t l m n e a go = grind (arith, agree_of_hull, hull_reached, agree_with_hull, states_groups)
 
 -- what a last edge more makes of a hull
 pub hull_with : (ss : List State) (u t : State) → hull_all ss ≡ Reached u → agree u t ≡ true → hull_all (ss ++ t ∷ []) ≡ Reached (hull_states u t)

@@ -6,9 +6,7 @@ use Rattle.std.specs.List.{list_all}
 use Rattle.std.proofs.lemmas.Bool.{and_parts}
 use Rattle.std.proofs.lemmas.Option.{same_Some}
 use Rattle.wsm_record.specs.declared.event.Value.{Value}
-use Rattle.wsm_record.specs.declared.event.Value.TheVariants.{Int, Bool as Truth', Enum}
 use Rattle.wsm_record.specs.declared.words.Kind.{Kind}
-use Rattle.wsm_record.specs.declared.words.Kind.TheVariants.{Sum, Min, Max, Any, All}
 use Rattle.wsm_record.specs.Name.{is_among}
 use Rattle.wsm_fold.specs.Fold.{is_of_kind, are_of_kinds}
 use Rattle.wsm_program.specs.declared.SectionId.TheVariants.{Where, Update, Fire}
@@ -17,7 +15,6 @@ use Rattle.wsm_machine.specs.Inputs.{Inputs, is_of_field, are_of_fields}
 use Rattle.wsm_machine.specs.InRange.{is_word}
 use Rattle.wsm_machine.specs.Step.{setting}
 use Rattle.wsm_record.specs.Schema.{FieldType, DeclaredField}
-use Rattle.wsm_record.specs.Schema as field_types
 use Rattle.wsm_query.specs.Tree.{Name, Query}
 use Rattle.wsm_check.specs.Names.{field_names, field_place, type_of}
 use Rattle.wsm_record.specs.declared.words.CellType.{CellType}
@@ -39,15 +36,7 @@ use Rattle.wsm_compiler.proofs.KnownFields.{declared, is_fine, not_in_column, in
 -- ---- fields
 
 has_type : (n : ℕ) (ty : FieldType) (v : Value) → is_of_field ty v ≡ true → of_ty (declared_ty n ty) (Some v) ≡ true
-has_type n (field_types.Int lo hi) (Int x) h = refl
-has_type n (field_types.Int lo hi) (Truth' b) h = no h
-has_type n (field_types.Int lo hi) (Enum i) h = no h
-has_type n field_types.Truth (Int x) h = no h
-has_type n field_types.Truth (Truth' b) h = refl
-has_type n field_types.Truth (Enum i) h = no h
-has_type n (field_types.Enum names) (Int x) h = no h
-has_type n (field_types.Enum names) (Truth' b) h = no h
-has_type n (field_types.Enum names) (Enum i) h = refl
+has_type n ty v h = grind arith
 
 -- the value at the place of the first field of a name
 record Read (ds : List DeclaredField) (vs : List Value) (x : Name) : Type 0 where
@@ -82,9 +71,7 @@ word_at (x ∷ vs) zero v h e = ap is_word (sym (same_Some x v e)) ∙ (and_part
 word_at (x ∷ vs) (suc f) v h e = word_at vs f v (and_parts (is_word x) (list_all is_word vs) h).1 e
 
 word_kept : (v : Value) → is_word v ≡ true → kept (Some v) ≡ Some v
-word_kept (Int n) h = ap (λ b. cond b (Some (Int n)) None) h
-word_kept (Truth' b) h = refl
-word_kept (Enum i) h = refl
+word_kept v h = grind arith
 
 pub field_read : (q : Query) (around : Around) (vs : List Value) → are_of_fields q.fields vs ≡ true → list_all is_word vs ≡ true → (x : Name) (t : CellType) → field_ty q around x ≡ Ok t →
     (v : Value) × (slice_get vs (field_place q.fields x) ≡ Some v) × (of_ty t (Some v) ≡ true) × (slice_get vs (field_place q.fields x) ≡ Some v) × (kept (Some v) ≡ Some v)
@@ -95,21 +82,7 @@ field_read q around vs fit words x t h =
 -- ---- accumulators
 
 of_kind : (kind : Kind) (v : Value) → is_of_kind kind v ≡ true → of_ty (kind_type kind) (Some v) ≡ true
-of_kind Sum (Int x) h = refl
-of_kind Sum (Truth' b) h = no h
-of_kind Sum (Enum i) h = no h
-of_kind Min (Int x) h = refl
-of_kind Min (Truth' b) h = no h
-of_kind Min (Enum i) h = no h
-of_kind Max (Int x) h = refl
-of_kind Max (Truth' b) h = no h
-of_kind Max (Enum i) h = no h
-of_kind Any (Int x) h = no h
-of_kind Any (Truth' b) h = refl
-of_kind Any (Enum i) h = no h
-of_kind All (Int x) h = no h
-of_kind All (Truth' b) h = refl
-of_kind All (Enum i) h = no h
+of_kind kind v h = grind arith
 
 held_at : (accs : List Acc) (vs : List Value) (j : ℕ) (acc : Acc) → are_of_kinds (map (λ acc. acc.kind) accs) vs ≡ true → slice_get accs j ≡ Some acc → (v : Value) × (slice_get vs j ≡ Some v) × (of_ty (kind_type acc.kind) (Some v) ≡ true)
 held_at [] vs j acc h e = none≢some e
@@ -157,7 +130,4 @@ module _ (q : Query) (b : Costs) (d : Inputs) where
   }
 
   pub serves_accs : pane_fits q d ≡ true → ServesAccs (setting (program_stating q b) Fire d) InColumn (on_accumulators d.key d.count d.accs) 0 (accumulators q)
-  serves_accs fit e j acc get =
-      let first : 0 + j ≡ j = omega arith in
-      let v = held_at (accumulators q) d.accs j acc fit get in
-      (v.0, ap (slice_get d.accs) first ∙ v.1, v.2, ap (slice_get d.accs) first ∙ v.1)
+  serves_accs fit e j acc get = grind (arith, held_at)

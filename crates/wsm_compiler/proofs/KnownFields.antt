@@ -1,5 +1,5 @@
 -- What sections may read.
-use Rattle.std.proofs.Common.{◌≡◌, Bool, true, false, cond, List, Ok, Err, refl, sym, ap, ◌∙◌}
+use Rattle.std.proofs.Common.{◌≡◌, Bool, true, false, cond, List, Ok, Err, refl, ap, arith}
 use Rattle.wsm_record.specs.Name.{is_among}
 use Rattle.wsm_program.specs.declared.SectionId.TheVariants.{Where, Update, Fire}
 use Rattle.wsm_program.specs.declared.program.Costs.{Costs}
@@ -21,9 +21,8 @@ pub declared : (q : Query) (around : Around) (x : Name) (t : CellType) → field
 declared q around x t h = of_cond (is_among x (field_names q.fields)) (read_at around (declared_ty (field_place q.fields x) (type_of x q.fields))) UnknownName t h
 
 abbrev pub in_column : Around → Bool
-in_column InWhere = false
 in_column InColumn = true
-in_column InAggregate = false
+in_column x = false
 
 pub reads_where : (q : Query) (b : Costs) → Reads (setting (program_stating q b) Where (ranges_of_record (program_stating q b))) q InWhere
 reads_where q b = record { field = λ x t h. refl; count = λ h. no (ap in_column h) }
@@ -36,12 +35,8 @@ is_fine (Ok t) = true
 is_fine (Err f) = false
 
 pub not_in_column : (b : Bool) (t : CellType) → is_fine (cond b (read_at InColumn t) (Err UnknownName)) ≡ false
-not_in_column true t = refl
-not_in_column false t = refl
+not_in_column b t = grind arith
 
 -- in FIRE, whatever is known of accumulators
 pub reads_fire : (q : Query) (b : Costs) (ks : List Known) → Reads (setting (program_stating q b) Fire (ranges_with (program_stating q b) ks)) q InColumn
-reads_fire q b ks = record {
-  field = λ x t h. no (sym (not_in_column (is_among x (field_names q.fields)) (declared_ty (field_place q.fields x) (type_of x q.fields))) ∙ ap is_fine h);
-  count = λ h. refl;
-}
+reads_fire q b ks = grind (arith, not_in_column)

@@ -8,15 +8,12 @@ use Rattle.std.proofs.lemmas.Bool.{and_from, ltb-true, and_parts, leb-true, le-l
 use Rattle.wsm_record.specs.Name.{is_name, is_among, is_between}
 use Rattle.wsm_program.specs.declared.instr.Instr.{Instr}
 use Rattle.wsm_program.specs.declared.program.Costs.{Costs}
-use Rattle.wsm_program.specs.Program.{Header, is_span, is_shape, is_column, is_timely, is_limited, is_clock, is_firing, is_row, is_budget, is_header, is_instr, is_section, is_program}
-use Rattle.wsm_record.specs.Modes.{may_write}
-use Rattle.wsm_record.specs.Schema.{FieldType, DeclaredField, is_field_type, is_field_after, are_fields_after, is_schema, is_i64, is_spelt_type, is_spelt_field}
-use Rattle.wsm_record.specs.Schema as field_types
+use Rattle.wsm_program.specs.Program.{Header, is_span, is_column, is_timely, is_limited, is_clock, is_firing, is_row, is_budget, is_header, is_instr, is_section, is_program}
+use Rattle.wsm_record.specs.Schema.{FieldType, DeclaredField, is_field_type, is_field_after, are_fields_after, is_schema, is_spelt_type, is_spelt_field}
 use Rattle.wsm_query.specs.Tree.{Name, Query, Expr, Aggregate, If, Brackets, Minus, Not, Binary, And, Or}
 use Rattle.wsm_check.specs.declared.refusal.CheckFault.TheVariants.{Duplicate, Limit}
 use Rattle.wsm_check.specs.declared.refusal.Part.{Part}
 use Rattle.wsm_check.specs.declared.refusal.Part.TheVariants as part
-use Rattle.wsm_check.specs.Names.{has_repeats}
 use Rattle.wsm_check.specs.Types.{typed}
 use Rattle.wsm_check.specs.declared.types.Around.TheVariants.{InWhere, InColumn}
 use Rattle.wsm_check.specs.Aggregates.{Acc, accumulators, accumulators_of, in_option, fired}
@@ -42,11 +39,7 @@ use Rattle.wsm_check.proofs.PassedChecks.{length-accumulators_of}
 -- ---- the schema
 
 type_listed : (p : Part) (ty : FieldType) → ty_refusal p ty ≡ None → is_spelt_type ty ≡ true → is_field_type ty ≡ true
-type_listed p (field_types.Int lo hi) h l =
-    let b = and_parts (is_i64 lo) (is_i64 hi) l in
-    and_from (is_i64 lo) (is_i64 hi && int_le lo hi) b.0 (and_from (is_i64 hi) (int_le lo hi) b.1 (unless_none (int_le lo hi) Limit p h))
-type_listed p field_types.Truth h l = refl
-type_listed p (field_types.Enum names) h l = names_listed p names h l
+type_listed p ty h l = grind (arith, unless_none, names_listed)
 
 record FieldPassed (names : List Name) (d : DeclaredField) (ds : List DeclaredField) : Type 0 where
   room : nat_lt (length names) 16 ≡ true
@@ -87,9 +80,7 @@ fields_few names (d ∷ ds) h l =
     omega (arith, a, rest)
 
 schema_is : (q : Query) → Passed q → IsSpelt q → is_schema (schema_of q) ≡ true
-schema_is q p s =
-    schema_lawful (schema_of q) (names_listed part.Keys q.keys p.keys s.keys) (omega (arith, fields_few [] q.fields p.fields (omega arith)))
-    (fields_listed [] q.fields p.fields s.fields) (sources_listed q.sources p.sources s.sources)
+schema_is q p s = grind (arith, schema_lawful, names_listed, fields_few, fields_listed, sources_listed)
 
 -- ---- when panes fire
 
@@ -139,8 +130,7 @@ operands_of_all [] h = refl
 operands_of_all (e ∷ es) h = let p = and_parts (numbers_fit e) (list_all numbers_fit es) h in operands_both (accumulators_of e) (flat_map accumulators_of es) (operands_of e p.0) (operands_of_all es p.1)
 
 condition_numbers_is : (o : Option Expr) → list_all numbers_fit (in_option o) ≡ true → condition_numbers o ≡ true
-condition_numbers_is None h = refl
-condition_numbers_is (Some e) h = (and_parts (numbers_fit e) true h).0
+condition_numbers_is o h = grind arith
 
 aggregates_counted : (q : Query) (es : List Expr) → length (flat_map accumulators_of (es ++ in_option q.having)) ≡ aggregates_of es + condition_aggregates q.having
 aggregates_counted q [] = of_having q.having
@@ -172,10 +162,7 @@ section_is h code l fine = and_from (nat_le (length code) 1000) (list_all (is_in
 
 module _ (q : Query) (passes : Passed q) (spelt : IsSpelt q) (b : Costs) (f : Fine q b) where
   keys_there : 0 < length q.keys
-  keys_there =
-      let many = nat_le 1 (length q.keys) && nat_le (length q.keys) 1000 in
-      let a = passed_both (unless many Limit part.Keys) (first (unless (not (has_repeats q.keys)) Duplicate part.Keys ∷ [])) passes.keys in
-      leb-true 1 (length q.keys) (and_parts (nat_le 1 (length q.keys)) (nat_le (length q.keys) 1000) (unless_none many Limit part.Keys a.0)).0
+  keys_there = grind (arith, passed_both, leb-true, unless_none)
 
   parts : (list_all numbers_fit (in_option q.condition) ≡ true) × (list_all numbers_fit (fired q) ≡ true)
   parts = expressions_fit q spelt
@@ -190,11 +177,7 @@ module _ (q : Query) (passes : Passed q) (spelt : IsSpelt q) (b : Costs) (f : Fi
   kinds_counted = ap length (kinds_are q (accumulators q)) ∙ length-map (accumulators q) (λ (acc : Acc). acc.kind)
 
   firing_is : is_firing head ≡ true
-  firing_is =
-      let t = and_parts (every_fits q.early) (every_fits q.late) passes.triggers in
-      and_from (is_shape q.shape) (is_span (every q.early) && (is_span (every q.late) && may_write q.mode q.form)) passes.shape
-      (and_from (is_span (every q.early)) (is_span (every q.late) && may_write q.mode q.form) (every_is q.early t.0)
-      (and_from (is_span (every q.late)) (may_write q.mode q.form) (every_is q.late t.1) passes.emit))
+  firing_is = grind (arith, every_is)
 
   clock_is : is_clock head ≡ true
   clock_is = and_from (is_limited head.clock) (is_timely head.clock.from_window head.shape) passes.clock passes.lateness
@@ -210,10 +193,7 @@ module _ (q : Query) (passes : Passed q) (spelt : IsSpelt q) (b : Costs) (f : Fi
 
   header_is : is_budget b ≡ true → is_header head ≡ true
   unfolding is_header
-  header_is budget =
-      and_from (is_schema head.schema) (is_clock head && (is_firing head && (is_row head && is_budget b))) (schema_is q passes spelt)
-      (and_from (is_clock head) (is_firing head && (is_row head && is_budget b)) clock_is
-      (and_from (is_firing head) (is_row head && is_budget b) firing_is (and_from (is_row head) (is_budget b) row_is budget)))
+  header_is budget = grind (arith, schema_is, clock_is, firing_is, row_is)
 
   where_is : is_section head (where_section q) ≡ true
   where_is =

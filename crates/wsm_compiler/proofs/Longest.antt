@@ -1,5 +1,5 @@
 -- The longest path of generated code is found by the structure of the query's terms.
-use Rattle.std.proofs.Common.{◌≡◌, ℕ, zero, suc, ◌+◌, ◌-◌, ◌*◌, ◌≤◌, max, true, false, cond, List, [], ◌∷◌, ◌++◌, length, map, Option, Some, None, refl, sym, ap, ◌∙◌, arith, append_assoc, length-append}
+use Rattle.std.proofs.Common.{◌≡◌, ℕ, zero, suc, ◌+◌, ◌*◌, ◌≤◌, max, true, false, List, [], ◌∷◌, ◌++◌, length, map, Option, Some, None, refl, sym, ap, ◌∙◌, arith, append_assoc, length-append}
 use Rattle.std.specs.Prelude.{option_map, unwrap_or, slice_index_or}
 use Rattle.std.proofs.lemmas.Bool.{lt-ltb}
 use Rattle.std.proofs.lemmas.List.{length-map}
@@ -16,7 +16,6 @@ use Rattle.wsm_check.specs.Parts.{Folding, Parts, parts_of}
 use Rattle.wsm_compiler.specs.TermCode.{instruction, choice, test_code, jump_unless, term_test, term_size, term_code, ending_code, foldings_code, firing_code}
 use Rattle.wsm_compiler.specs.Program.{assembled, program_of}
 use Rattle.wsm_compiler.specs.Longest.{longest, longest_ending, longest_foldings, longest_firing, needed_by_structure, NeededByStructure, untested_longest, NotLonger}
-use Rattle.wsm_machine.proofs.FittingStacks.{no}
 use Rattle.wsm_compiler.proofs.Operators.{of_operator}
 use Rattle.wsm_compiler.proofs.Tests.{plain, plain_next}
 use Rattle.wsm_compiler.proofs.Sizes.{length-term_code, length-test_code}
@@ -36,17 +35,14 @@ plus_plus m n (Some k) = ap Some (sums m n k)
     sums m n k = omega arith
 
 one_is : (o : Option ℕ) → one_more o ≡ plus 1 o
-one_is None = refl
-one_is (Some n) = let e : suc n ≡ 1 + n = omega arith in ap Some e
+one_is o = grind arith
 
 longest_alone : (o : Option ℕ) → longer o None ≡ o
-longest_alone None = refl
-longest_alone (Some n) = refl
+longest_alone o = grind arith
 
 -- two ways to one end
 longer_plus : (m n : ℕ) (o : Option ℕ) → longer (plus m o) (longer (plus n o) None) ≡ plus (max m n) o
-longer_plus m n None = refl
-longer_plus m n (Some k) = let e : max (m + k) (n + k) ≡ max m n + k = omega arith in ap Some e
+longer_plus m n o = grind arith
 
 -- behind some instructions
 at_behind : (p : ℕ) (xs ys : List Instr) (n q : ℕ) → n ≡ length xs + q → at p (xs ++ ys) n ≡ at (p + length xs) ys q
@@ -60,13 +56,10 @@ at_behind p (x ∷ xs) ys (suc n) q h =
 
 -- the way over an edge, to the q-th instruction behind
 over_edge : (k t q : ℕ) (is : List Instr) → t ≡ suc k + q → way_from k (ways (suc k) is) t ≡ at (suc k) is q
-over_edge k t q is h =
-    let e : t - suc k ≡ q = omega (arith, h) in
-    ap (λ b. cond b (slice_index_or (ways (suc k) is) (t - suc k) None) None) (lt-ltb k t (omega (arith, h))) ∙ ap (at (suc k) is) e
+over_edge k t q is h = grind (arith, lt-ltb)
 
 plain_way : (k : ℕ) (i : Instr) (later : List (Option ℕ)) → plain i ≡ true → way_of k i later ≡ one_more (longest_of (map (way_from k later) (next i k)))
-plain_way k instr.Return later h = no h
-plain_way k i later h = refl
+plain_way k i later h = grind arith
 
 plain_at : (k : ℕ) (i : Instr) (rest : List Instr) → plain i ≡ true → at k (i ∷ rest) 0 ≡ plus 1 (at (k + 1) rest 0)
 plain_at k i rest h =
@@ -79,22 +72,15 @@ plain_at k i rest h =
     ∙ one_is (at (k + 1) rest 0)
 
 jump_at : (k t q : ℕ) (rest : List Instr) → t ≡ k + 1 + q → at k (instr.Jump t ∷ rest) 0 ≡ plus 1 (at (k + 1) rest q)
-jump_at k t q rest h =
-    let e : suc k ≡ k + 1 = omega arith in
-    ap one_more (longest_alone (way_from k (ways (suc k) rest) t) ∙ over_edge k t q rest (omega (arith, h)) ∙ ap (λ n. at n rest q) e) ∙ one_is (at (k + 1) rest q)
+jump_at k t q rest h = grind (arith, longest_alone, over_edge, one_is)
 
 -- to the next place or to a target
 branch_at : (k t q : ℕ) (rest : List Instr) (m n : ℕ) (o : Option ℕ) → t ≡ k + 1 + q → at (k + 1) rest 0 ≡ plus m o → at (k + 1) rest q ≡ plus n o →
     one_more (longest_of (map (way_from k (ways (suc k) rest)) (suc k ∷ t ∷ []))) ≡ plus (1 + max m n) o
-branch_at k t q rest m n o h first second =
-    let e : suc k ≡ k + 1 = omega arith in
-    let f : suc k ≡ suc k + 0 = omega arith in
-    ap one_more ((λ i. longer (over_edge k (suc k) 0 rest f i) (longer (over_edge k t q rest (omega (arith, h)) i) None)) ∙ (λ i. longer (at (e i) rest 0) (longer (at (e i) rest q) None)) ∙ (λ i. longer (first i) (longer (second i) None)) ∙ longer_plus m n o)
-    ∙ one_is (plus (max m n) o) ∙ plus_plus 1 (max m n) o
+branch_at k t q rest m n o h first second = grind (arith, over_edge, longer_plus, one_is, plus_plus)
 
 test_at : (x : Option FieldTest) (k t q : ℕ) (rest : List Instr) (m n : ℕ) (o : Option ℕ) → t ≡ k + 1 + q → at (k + 1) rest 0 ≡ plus m o → at (k + 1) rest q ≡ plus n o → at k (jump_unless x t ∷ rest) 0 ≡ plus (1 + max m n) o
-test_at None k t q rest m n o h first second = branch_at k t q rest m n o h first second
-test_at (Some x) k t q rest m n o h first second = branch_at k t q rest m n o h first second
+test_at x k t q rest m n o h first second = grind (arith, branch_at)
 
 -- some instructions take at most n steps to the place behind them
 abbrev Takes : ℕ → List Instr → ℕ → Type 0
@@ -104,10 +90,7 @@ plain_takes : (k : ℕ) (i : Instr) → plain i ≡ true → Takes k (i ∷ []) 
 plain_takes k i h rest = plain_at k i rest h
 
 sequence_takes : (k : ℕ) (is js : List Instr) (j m n : ℕ) → j ≡ k + length is → Takes k is m → Takes j js n → Takes k (is ++ js) (m + n)
-sequence_takes k is js j m n h first second rest =
-    let l = length-append is js in
-    let e : j + length js ≡ k + length (is ++ js) = omega (arith, l, h) in
-    ap (λ xs. at k xs 0) (append_assoc is js rest) ∙ first (js ++ rest) ∙ ap (λ p. plus m (at p (js ++ rest) 0)) (sym h) ∙ ap (plus m) (second rest) ∙ plus_plus m n (at (j + length js) rest 0) ∙ ap (λ p. plus (m + n) (at p rest 0)) e
+sequence_takes k is js j m n h first second rest = grind (arith, length-append, append_assoc, plus_plus)
 
 -- the code of a test, where there is some
 test_takes : {A : Type 0} (o : Option A) (k : ℕ) (is : List Instr) (n : ℕ) → Takes k is n → Takes k (test_code o is) (unless_tested o n)
@@ -217,7 +200,7 @@ needed_of_parts : (p : Parts) (b : Costs) → needed (assembled p b) ≡ needed_
 needed_of_parts p b =
     let path = λ (o : Option ℕ). unwrap_or o 0 in
     (λ i. record {
-      per_record = path (ending_path 0 p.condition i) + windows_of_a_record p.shape * path (foldings_path 0 0 p.foldings i) + join_steps p.shape (length-map p.foldings (λ (f : Folding). f.kind) i);
+      per_record = path (ending_path 0 p.condition i) + windows_of_a_record p.output.shape * path (foldings_path 0 0 p.foldings i) + join_steps p.output.shape (length-map p.foldings (λ (f : Folding). f.kind) i);
       per_pane = path (firing_path 0 p.having p.columns i);
       held = (needed_by_structure p).held;
     })
@@ -228,16 +211,14 @@ needed_is q = needed_of_parts (parts_of q) (program_of q).header.budget
 -- ---- tests make no path longer
 
 test_shorter : {A : Type 0} (t : Option A) (l m : ℕ) → l ≤ m → unless_tested t l ≤ m
-test_shorter None l m h = h
-test_shorter (Some t) l m h = omega arith
+test_shorter t l m h = grind arith
 
 if_shorter : (l m n c x y : ℕ) → l ≤ c → m ≤ x → n ≤ y → l + (1 + max (m + 1) n) ≤ c + (1 + max (x + 1) y)
 if_shorter l m n c x y h i j = omega (arith, h, i, j)
 
 -- of a test and two parts
 chosen_shorter : (c : Term) (m n x y : ℕ) → NotLonger c → m ≤ x → n ≤ y → unless_tested (term_test c) (longest c) + (1 + max (m + 1) n) ≤ untested_longest c + (1 + max (x + 1) y)
-chosen_shorter c m n x y h i j =
-    if_shorter (unless_tested (term_test c) (longest c)) m n (untested_longest c) x y (test_shorter (term_test c) (longest c) (untested_longest c) h) i j
+chosen_shorter c m n x y h i j = grind (arith, if_shorter, test_shorter)
 
 pub not_longer : (t : Term) → NotLonger t
 not_longer (If c x y) = chosen_shorter c (longest x) (longest y) (untested_longest x) (untested_longest y) (not_longer c) (not_longer x) (not_longer y)

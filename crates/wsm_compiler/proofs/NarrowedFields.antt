@@ -15,7 +15,7 @@ use Rattle.wsm_rules.specs.declared.known.Known.TheVariants as known
 use Rattle.wsm_rules.specs.Labels.{narrowed_known}
 use Rattle.wsm_rules.specs.Rules.{and_then, known_field, known_fields}
 use Rattle.wsm_query.specs.declared.expr.Op.{Op}
-use Rattle.wsm_query.specs.declared.expr.Op.TheVariants.{Add, Sub, Mul, Div, Rem, Eq, Ne, Lt, Le, Gt, Ge}
+use Rattle.wsm_query.specs.declared.expr.Op.TheVariants.{Add, Sub, Mul, Div, Rem}
 use Rattle.wsm_query.specs.Tree.{Name, Query, Expr, Binary}
 use Rattle.wsm_check.specs.declared.refusal.CheckFault.{CheckFault}
 use Rattle.wsm_check.specs.Names.{place_of, field_names, field_place, type_of}
@@ -23,12 +23,12 @@ use Rattle.wsm_check.specs.Types.{Typed, declared_ty}
 use Rattle.wsm_check.specs.Terms.{resolved}
 use Rattle.wsm_check.specs.Tested.{comparison_of, term_field, term_number}
 use Rattle.wsm_compiler.specs.Code.{test_of}
-use Rattle.wsm_compiler.specs.Ranges.{Range, Unfit, NoNumber, Within, no_number, within, of_minus, of_type, narrowed_type, narrowed_fields, where_true, where_false, range_on, fits}
+use Rattle.wsm_compiler.specs.Ranges.{Range, Within, no_number, within, of_minus, of_type, narrowed_type, narrowed_fields, where_true, where_false, range_on, fits}
 use Rattle.wsm_machine.proofs.FittingStacks.{no}
 use Rattle.wsm_compiler.proofs.Parts.{none≢some}
 use Rattle.wsm_compiler.proofs.TestedForms.{of_field, of_plain, of_number, of_test}
 use Rattle.wsm_compiler.proofs.Found.{known_true, known_false, test_found}
-use Rattle.wsm_compiler.proofs.FoundRanges.{err≢ok, known_of}
+use Rattle.wsm_compiler.proofs.FoundRanges.{known_of}
 
 -- ---- fields that are narrowed
 
@@ -46,9 +46,7 @@ narrowed_names zero o n (d ∷ ds) = refl
 narrowed_names (suc g) o n (d ∷ ds) = ap (λ xs. d.name ∷ xs) (narrowed_names g o n ds)
 
 narrowed_ty : (o : Comparison) (n : ℤ) (f : ℕ) (ty : FieldType) → declared_ty f (narrowed_type o n ty) ≡ declared_ty f ty
-narrowed_ty o n f (field_types.Int lo hi) = refl
-narrowed_ty o n f field_types.Truth = refl
-narrowed_ty o n f (field_types.Enum names) = refl
+narrowed_ty o n f ty = grind arith
 
 narrowed_types : (g : ℕ) (o : Comparison) (n : ℤ) (y : Name) (f : ℕ) (ds : List DeclaredField) → declared_ty f (type_of y (narrowed_fields g o n ds)) ≡ declared_ty f (type_of y ds)
 narrowed_types g o n y f [] = refl
@@ -71,9 +69,7 @@ false_narrows (Some t) h = narrows t.field (opposite t.comparison) t.number h
 -- ---- what is known of fields
 
 is_known : (f : ℕ) (ty : FieldType) → Some (known_field f ty) ≡ known_of (declared_ty f ty) (of_type ty)
-is_known f (field_types.Int lo hi) = refl
-is_known f field_types.Truth = refl
-is_known f (field_types.Enum names) = refl
+is_known f ty = grind arith
 
 abbrev Is : ℕ → List DeclaredField → Name → Type 0
 Is n ds x =
@@ -108,8 +104,7 @@ known_at n (d ∷ ds) x h =
     ] refl h
 
 pub of_cond : (b : Bool) (y : Typed) (f : CheckFault) (t : CellType) → cond b y (Err f) ≡ Ok t → b ≡ true
-of_cond true y f t h = refl
-of_cond false y f t h = err≢ok h
+of_cond b y f t h = grind arith
 
 -- a field that is read
 pub known_here : (q : Query) (ds : List DeclaredField) → Narrows q ds → (x : Name) (t : CellType) → is_among x (field_names q.fields) ≡ true → declared_ty (field_place q.fields x) (type_of x q.fields) ≡ t →
@@ -125,9 +120,7 @@ known_here q ds n x t there is =
 -- ---- what is known where a test is true, and where it is false
 
 narrowed_is : (f : ℕ) (x : FieldTest) (ty : FieldType) → narrowed_known x (known_field f ty) ≡ known_field f (narrowed_type x.comparison x.number ty)
-narrowed_is f x (field_types.Int lo hi) = refl
-narrowed_is f x field_types.Truth = refl
-narrowed_is f x (field_types.Enum names) = refl
+narrowed_is f x ty = grind arith
 
 set_known : (k : ℕ) (ds : List DeclaredField) (g : ℕ) (o : Comparison) (n : ℤ) → known_true (Some (record { field = g; comparison = o; number = n })) (known_fields k ds) ≡ known_fields k (narrowed_fields g o n ds)
 set_known k [] g o n = refl
@@ -139,8 +132,7 @@ true_known None ds = refl
 true_known (Some t) ds = set_known 0 ds t.field t.comparison t.number
 
 pub false_known : (w : Option FieldTest) (ds : List DeclaredField) → known_false w (known_fields 0 ds) ≡ known_fields 0 (where_false w ds)
-false_known None ds = refl
-false_known (Some t) ds = set_known 0 ds t.field (opposite t.comparison) t.number
+false_known w ds = grind (arith, set_known)
 
 -- ---- a test fits
 
@@ -160,13 +152,7 @@ number_fits q ds a e n h =
     ∙ ap (λ b. fits (within (cond (b && b) (Some (interval (neg_ℤ m) (neg_ℤ m))) None))) word) a e h
 
 both_fit : (r p : Range) → fits r ≡ true → fits p ≡ true → fits (no_number r p) ≡ true
-both_fit Unfit p h l = no h
-both_fit NoNumber Unfit h l = no l
-both_fit NoNumber NoNumber h l = refl
-both_fit NoNumber (Within y) h l = refl
-both_fit (Within x) Unfit h l = no l
-both_fit (Within x) NoNumber h l = refl
-both_fit (Within x) (Within y) h l = refl
+both_fit r p h l = grind arith
 
 compared : (q : Query) (ds : List DeclaredField) (x y : Expr) (op : Op) (o : Comparison) → comparison_of op ≡ Some o → fits (range_on q ds x) ≡ true → fits (range_on q ds y) ≡ true → fits (range_on q ds (Binary op x y)) ≡ true
 compared q ds x y Add o e a b = none≢some e
@@ -174,12 +160,7 @@ compared q ds x y Sub o e a b = none≢some e
 compared q ds x y Mul o e a b = none≢some e
 compared q ds x y Div o e a b = none≢some e
 compared q ds x y Rem o e a b = none≢some e
-compared q ds x y Eq o e a b = both_fit (range_on q ds x) (range_on q ds y) a b
-compared q ds x y Ne o e a b = both_fit (range_on q ds x) (range_on q ds y) a b
-compared q ds x y Lt o e a b = both_fit (range_on q ds x) (range_on q ds y) a b
-compared q ds x y Le o e a b = both_fit (range_on q ds x) (range_on q ds y) a b
-compared q ds x y Gt o e a b = both_fit (range_on q ds x) (range_on q ds y) a b
-compared q ds x y Ge o e a b = both_fit (range_on q ds x) (range_on q ds y) a b
+compared q ds x y op o e a b = both_fit (range_on q ds x) (range_on q ds y) a b
 
 pub tested_fits : (q : Query) (ds : List DeclaredField) (a : ℕ) (e : Expr) (t : FieldTest) → test_of q a e ≡ Some t → fits (range_on q ds e) ≡ true
 tested_fits q ds a e t h =
@@ -188,6 +169,4 @@ tested_fits q ds a e t h =
 
 -- what follows a test is found alike, whether its jump makes it or not
 pub test_hulled : (w : Option FieldTest) (o y : Option Known) → ((t : FieldTest) → w ≡ Some t → is_some o ≡ true) → and_then (λ v. y) (test_found w o) ≡ and_then (λ v. y) o
-test_hulled None o y h = refl
-test_hulled (Some t) None y h = no (h t refl)
-test_hulled (Some t) (Some u) y h = refl
+test_hulled w o y h = grind arith

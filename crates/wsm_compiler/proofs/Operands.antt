@@ -1,18 +1,16 @@
 -- The operands of generated code name what the program has.
 use Rattle.std.proofs.Common.{◌≡◌, ℕ, suc, ◌+◌, ◌≤◌, ◌<◌, Bool, true, false, ◌&&◌, List, [], ◌∷◌, ◌++◌, length, map, Option, Some, None, Ok, refl, sym, ap, subst, ◌∙◌, arith}
 use Rattle.std.proofs.lemmas.List.Folds.{list_all-append}
-use Rattle.std.specs.Prelude.{ℤ, is_some, nat_lt, slice_get}
+use Rattle.std.specs.Prelude.{ℤ, is_some, slice_get}
 use Rattle.std.specs.List.{list_all}
 use Rattle.std.proofs.lemmas.Bool.{and_from, lt-ltb, and_parts}
 use Rattle.wsm_record.specs.declared.words.Kind.{Kind}
-use Rattle.wsm_record.specs.declared.words.Kind.TheVariants.{Sum, Min, Max, Any, All}
 use Rattle.wsm_record.specs.Name.{is_among}
 use Rattle.wsm_program.specs.declared.instr.Instr.{Instr}
 use Rattle.wsm_program.specs.declared.instr.Instr.TheVariants as instr
 use Rattle.wsm_program.specs.declared.program.Costs.{Costs}
 use Rattle.wsm_program.specs.Program.{Header, is_name_of, is_column, is_number_type, is_number_field, is_test, is_instr}
 use Rattle.wsm_query.specs.declared.expr.Op.{Op}
-use Rattle.wsm_query.specs.declared.expr.Op.TheVariants.{Add, Sub, Mul, Div, Rem, Eq, Ne, Lt, Le, Gt, Ge}
 use Rattle.wsm_record.specs.Schema.{FieldType, names_of_type, is_i64}
 use Rattle.wsm_record.specs.Schema as field_types
 use Rattle.wsm_query.specs.Tree.{Name, Query, Expr, Number, Truth, Field, EnumName, Key, KeyName, Count, Aggregate, If, Brackets, Minus, Not, Binary, And, Or}
@@ -65,9 +63,7 @@ tested_number q a e t h =
     of_test q (λ e. numbers_fit e ≡ true → is_i64 t.number ≡ true) (λ e p. p) t (λ a b op x y p l. number_fine q b y t.number p.number (and_parts (numbers_fit x) (numbers_fit y) l).1) a e h
 
 number_type : (f : ℕ) (ty : FieldType) → declared_ty f ty ≡ types.Int → is_number_type ty ≡ true
-number_type f (field_types.Int lo hi) h = refl
-number_type f field_types.Truth h = ap (is_type types.Int) h
-number_type f (field_types.Enum names) h = ap (is_type types.Int) h
+number_type f ty h = grind arith
 
 module _ (q : Query) (b : Costs) where
   abbrev pub head : Header
@@ -79,43 +75,24 @@ module _ (q : Query) (b : Costs) where
   -- ---- the types of columns
 
   declared_named : (x : Name) → is_among x (field_names q.fields) ≡ true → (ty : FieldType) → type_of x q.fields ≡ ty → Named (declared_ty (field_place q.fields x) ty)
-  declared_named x h (field_types.Int lo hi) is = refl
-  declared_named x h field_types.Truth is = refl
   declared_named x h (field_types.Enum names) is = ap is_some (names_there q.fields x h ∙ ap names_of_type is)
+  declared_named x h ty is = refl
 
   some_names : (ty : FieldType) (y : Name) → is_among y (names_of ty) ≡ true → is_some (names_of_type ty) ≡ true
-  some_names (field_types.Int lo hi) y h = no h
-  some_names field_types.Truth y h = no h
-  some_names (field_types.Enum names) y h = refl
+  some_names ty y h = grind arith
 
   -- the name of a field, and a name of its type
   both_declared : (around : Around) (x y : Name) (t : CellType) → typed q around (EnumName x y) ≡ Ok t → (is_among x (field_names q.fields) ≡ true) × (is_among y (names_of (type_of x q.fields)) ≡ true)
-  both_declared around x y t h =
-      and_parts (is_among x (field_names q.fields)) (is_among y (names_of (type_of x q.fields)))
-      (of_cond (is_among x (field_names q.fields) && is_among y (names_of (type_of x q.fields))) _ _ t h)
+  both_declared around x y t h = grind (arith, of_cond)
 
   named_as : (t u : CellType) → t ≡ u → Named t → Named u
   named_as t u e h = subst Named e h
 
   operand_named : (kind : Kind) → Named (kind_type kind)
-  operand_named Sum = refl
-  operand_named Min = refl
-  operand_named Max = refl
-  operand_named Any = refl
-  operand_named All = refl
+  operand_named kind = grind arith
 
   result_named : (op : Op) → Named (result_of op)
-  result_named Add = refl
-  result_named Sub = refl
-  result_named Mul = refl
-  result_named Div = refl
-  result_named Rem = refl
-  result_named Eq = refl
-  result_named Ne = refl
-  result_named Lt = refl
-  result_named Le = refl
-  result_named Gt = refl
-  result_named Ge = refl
+  result_named op = grind arith
 
   type_named : (around : Around) (e : Expr) (t : CellType) → typed q around e ≡ Ok t → Named t
   type_named around (Number n) t h = named_as types.Int t (ok_is types.Int t h) refl
@@ -159,10 +136,7 @@ module _ (q : Query) (b : Costs) where
   fine_one i h = and_from (is_instr head i) true h refl
 
   choice_fine : (jump : ℕ → Instr) (k : ℕ) (first : List Instr) (m : ℕ) (second : List Instr) (n : ℕ) → is_instr head (jump (k + m + 1)) ≡ true → AllFine first → AllFine second → k + m + 1 + n < 65536 → AllFine (choice jump k first m second n)
-  choice_fine jump k first m second n j h l room =
-      let j2 = instr.Jump (k + m + 1 + n) in
-      and_from (is_instr head (jump (k + m + 1))) (list_all (is_instr head) (first ++ j2 ∷ second)) j
-      (fine_both first (j2 ∷ second) h (and_from (is_instr head j2) (list_all (is_instr head) second) (lt-ltb (k + m + 1 + n) 65536 room) l))
+  choice_fine jump k first m second n j h l room = grind (arith, fine_both, lt-ltb)
 
   -- a field that a test names is one of numbers, and the test's number has 64 bits
   test_fine : (around : Around) (a : ℕ) (e : Expr) → typed q around e ≡ Ok types.Bool → numbers_fit e ≡ true → (t : FieldTest) → test_of q a e ≡ Some t → is_test head t ≡ true
@@ -176,10 +150,7 @@ module _ (q : Query) (b : Costs) where
   -- a test and the parts behind it
   tested_fine : (w : Option FieldTest) (is : List Instr) (k : ℕ) (first : List Instr) (m : ℕ) (second : List Instr) (n : ℕ) → ((t : FieldTest) → w ≡ Some t → is_test head t ≡ true) → (w ≡ None → AllFine is) →
       AllFine first → AllFine second → k + m + 1 + n < 65536 → AllFine (test_code w is ++ choice (jump_unless w) k first m second n)
-  tested_fine None is k first m second n named test h l room =
-      fine_both is (choice instr.JumpIfFalse k first m second n) (test refl) (choice_fine instr.JumpIfFalse k first m second n (lt-ltb (k + m + 1) 65536 (omega (arith, room))) h l room)
-  tested_fine (Some t) is k first m second n named test h l room =
-      choice_fine (instr.Test t) k first m second n (and_from (is_test head t) (nat_lt (k + m + 1) 65536) (named t refl) (lt-ltb (k + m + 1) 65536 (omega (arith, room)))) h l room
+  tested_fine w is k first m second n named test h l room = grind (arith, fine_both, choice_fine, lt-ltb)
 
   -- in a column there is an accumulator for each aggregate
   abbrev Room : Around → ℕ → Expr → Type 0
@@ -187,16 +158,13 @@ module _ (q : Query) (b : Costs) where
 
   code_fine : (around : Around) (k a : ℕ) (e : Expr) (t : CellType) → typed q around e ≡ Ok t → numbers_fit e ≡ true → Room around a e → k + size q a e < 65536 → AllFine (code q k a e)
   code_fine around k a (Number n) t h l accs room = fine_one (instr.PushInt n) l
-  code_fine around k a (Truth v) t h l accs room = refl
   code_fine around k a (Field x) t h l accs room = fine_one (instr.Field (field_place q.fields x)) (field_below q.fields x (declared q around x t h))
   code_fine around k a (EnumName x y) t h l accs room =
       let p = both_declared around x y t h in
       let ty = type_of x q.fields in
       fine_one (instr.PushEnum (suc (field_place q.fields x)) (place_of y (names_of ty)))
       (ap (λ o. is_name_of o (place_of y (names_of ty))) (names_there q.fields x p.0) ∙ name_there ty y p.1)
-  code_fine around k a Key t h l accs room = refl
   code_fine around k a (KeyName x) t h l accs room = fine_one (instr.PushEnum 0 (place_of x q.keys)) (place_below x q.keys (of_cond (is_among x q.keys) _ _ t h))
-  code_fine around k a Count t h l accs room = refl
   code_fine around k a (Aggregate kind e) t h l accs room =
       let inner = if_typed (typed q InAggregate e) (λ t. wanted (is_type t (kind_type kind)) (kind_type kind)) in
       let n = accs (entered_is around inner t h).0 in
@@ -243,13 +211,13 @@ module _ (q : Query) (b : Costs) where
       tested_fine (test_of q a x) (code q k a x) j (instr.PushBool true ∷ []) 1 second (size q b y) (test_fine around a x p.left_is f.0)
       (λ none. code_fine around k a x types.Bool p.left_is f.0 (λ e. let n = accs e in omega (arith, n)) (omega (arith, room, ap (λ v. unless_tested v (size q a x)) none)))
       refl (code_fine around (j + 1 + 1) b y types.Bool p.right_is f.1 (λ e. let n = accs e in omega (arith, n)) (omega (arith, room))) (omega (arith, room))
+  code_fine around k a e t h l accs room = refl
 
   -- ---- sections
 
   pub condition_fine : (around : Around) (k a : ℕ) (o : Option Expr) → ConditionTyped q around o → condition_numbers o ≡ true → (around ≡ InColumn → a + condition_aggregates o ≤ length head.kinds) → k + condition_size q a o < 65536 →
       AllFine (condition_code q k a o ++ instr.Return ∷ [])
-  condition_fine around k a None h l accs room = refl
-  condition_fine around k a (Some e) h l accs room = fine_both (code q k a e) (instr.Return ∷ []) (code_fine around k a e types.Bool h l accs room) refl
+  condition_fine around k a o h l accs room = grind (arith, fine_both, code_fine)
 
   pub folds_fine : (k a : ℕ) (accs : List Acc) → AccsTyped q b accs → operands_fit accs ≡ true → a + length accs ≤ length head.kinds → k + folds_size q accs < 65536 → AllFine (folds q k a accs)
   folds_fine k a [] h l n room = refl

@@ -2,12 +2,12 @@
 use Rattle.std.proofs.Common.{◌≡◌, ℕ, suc, ◌+◌, ◌<◌, Bool, true, false, ◌&&◌, ◌||◌, cond, List, [], ◌∷◌, ◌++◌, length, Option, Some, None, refl, ap, subst, ◌∙◌, arith, length-append, append-nil}
 use Rattle.std.specs.Prelude.{is_some, is_none, option_map, nat_eq, nat_lt}
 use Rattle.std.specs.List.{cons_option, list_any}
-use Rattle.std.proofs.Math.Bool.{or-false}
+use Rattle.std.proofs.Math.Bool.{or-false, or-true}
 use Rattle.wsm_program.specs.declared.Instr.{Instr}
 use Rattle.wsm_program.specs.Instructions.{next}
 use Rattle.wsm_rules.specs.Labels.{State, Ranges, Label, Reached, Visit, after, along, carried_to, hull_all, gathered, label_of, visit, visit_of}
 use Rattle.wsm_rules.specs.Rules.{Setting, fault_of, fault_at, and_then}
-use Rattle.wsm_compiler.proofs.Visits.{both_empty, extended, added, extended_is, added_append, length-extended, carries, carries_append, label_gathered, faults, faults_append, or_true}
+use Rattle.wsm_compiler.proofs.Visits.{both_empty, extended, added, extended_is, added_append, length-extended, carries, carries_append, label_gathered, faults, faults_append}
 use Rattle.wsm_machine.proofs.FittingStacks.{no}
 
 pub none≢some : {A X : Type 0} {a : A} → None ≡ Some a → X
@@ -59,7 +59,7 @@ sequence e c k is js s None f hi hj first rest vs at =
     let a = first vs (begun e vs k s is js at) in
     let ws = extended e c.ranges vs is in
     record {
-      faulty = ap (faults c) (added_append e c.ranges vs is js) ∙ faults_append c (added e c.ranges ws js) (added e c.ranges vs is) ∙ ap (λ b. faults c (added e c.ranges ws js) || b) a.faulty ∙ or_true (faults c (added e c.ranges ws js));
+      faulty = ap (faults c) (added_append e c.ranges vs is js) ∙ faults_append c (added e c.ranges ws js) (added e c.ranges vs is) ∙ ap (λ b. faults c (added e c.ranges ws js) || b) a.faulty ∙ or-true (faults c (added e c.ranges ws js));
       gives = λ t h. none≢some h;
       quiet = λ t h q l. none≢some h;
     }
@@ -86,8 +86,7 @@ sequence e c k is js s (Some t) f hi hj first rest vs at =
 -- ---- one instruction
 
 pub some_map : {A B : Type 0} (f : A → B) (o : Option A) → is_some (option_map f o) ≡ is_some o
-some_map f None = refl
-some_map f (Some x) = refl
+some_map f o = grind arith
 
 -- the visit of a place where s is known
 pub visit_is : (e : State) (r : Ranges) (i : Instr) (vs : List Visit) (k : ℕ) (s : State) → length vs ≡ k → label_of e k vs ≡ Reached s → visit_of e r i vs ≡ visit r k i (Reached s)
@@ -103,8 +102,7 @@ not_far : (k q : ℕ) → k + 1 < q → (nat_lt k q && list_any (nat_eq q) (suc 
 not_far k q h = let a : nat_lt k q ≡ true = grind arith in let b : nat_eq q (suc k) ≡ false = grind arith in (λ i. a i && (b i || false))
 
 same_along : (i : Instr) (p q : ℕ) → ((s : State) → along i p q s ≡ s) → (o : Option State) → option_map (along i p q) o ≡ o
-same_along i p q h None = refl
-same_along i p q h (Some s) = ap Some (h s)
+same_along i p q h o = grind arith
 
 pub one : (e : State) (c : Setting) (k : ℕ) (i : Instr) (s : State) (o : Option State) → next i k ≡ suc k ∷ [] → ((p q : ℕ) (s : State) → along i p q s ≡ s) → is_some (fault_of c k i (Reached s)) ≡ is_none o →
     ((t : State) → o ≡ Some t → after c.ranges i s ≡ Some t) → Labelled e c k (i ∷ []) s o

@@ -1,5 +1,5 @@
 -- The checks that a query passed, one by one.
-use Rattle.std.proofs.Common.{◌≡◌, ℕ, ◌≤◌, ◌*◌, Bool, true, false, ◌&&◌, [], ◌∷◌, length, Option, Some, None, refl, sym, ap, arith}
+use Rattle.std.proofs.Common.{◌≡◌, ℕ, ◌≤◌, ◌*◌, Bool, true, false, ◌&&◌, [], ◌∷◌, length, Option, Some, None, arith}
 use Rattle.std.specs.Prelude.{nat_le}
 use Rattle.wsm_record.specs.Modes.{may_write}
 use Rattle.wsm_windows.specs.Life.{live_bound}
@@ -17,7 +17,6 @@ use Rattle.wsm_check.specs.Parts.{parts_of}
 use Rattle.wsm_check.specs.Sizes.{where_size, update_size, fire_size, stack_need, counted}
 use Rattle.wsm_check.specs.declared.types.Around.TheVariants.{InWhere, InColumn}
 use Rattle.wsm_check.specs.Checks.{unless, first, names_refusal, fields_refusal, sources_refusal, budget_fits, every_fits, condition_refusal, columns_refusal, exceeds, foldings_refusal, sizes_refusal, declared_refusal, numbers_refusal, expressions_refusal, rest_refusal, IsChecked}
-use Rattle.wsm_machine.proofs.FittingStacks.{no}
 use Rattle.wsm_check.proofs.ChecksInOrder.{passed_both}
 
 abbrev pub is_refusal : Option CheckRefusal → Bool
@@ -25,8 +24,7 @@ is_refusal None = false
 is_refusal (Some r) = true
 
 pub unless_none : (b : Bool) (f : CheckFault) (p : Part) → unless b f p ≡ None → b ≡ true
-unless_none true f p h = refl
-unless_none false f p h = no (sym (ap is_refusal h))
+unless_none b f p h = grind arith
 
 -- a number within a limit, as it is and as the code counts it
 is_at_most : (l : CodeLimit) (m n : ℕ) → exceeds l m n ≡ None → m ≤ n
@@ -42,11 +40,11 @@ pub record CodeFits (q : Query) : Type 0 where
   pub update : update_size q ≤ 1000
   pub fire : fire_size q ≤ 1000
   pub stack : stack_need q ≤ 32
-  pub held : length q.keys * live_bound q.shape q.clock.skew q.clock.lateness ≤ 100000
+  pub held : length q.keys * live_bound q.output.shape q.clock.skew q.clock.lateness ≤ 100000
 
 code_fits_in : (q : Query) → foldings_refusal (parts_of q) ≡ None → sizes_refusal (parts_of q) ≡ None → CodeFits q
 code_fits_in q few fits =
-    let panes = length q.keys * live_bound q.shape q.clock.skew q.clock.lateness in
+    let panes = length q.keys * live_bound q.output.shape q.clock.skew q.clock.lateness in
     let h = exceeds Panes (counted panes) 100000 in
     let s = exceeds Stack (counted (stack_need q)) 32 in
     let f = exceeds Fire (counted (fire_size q)) 1000 in
@@ -71,10 +69,10 @@ pub record Passed (q : Query) : Type 0 where
   pub sources : sources_refusal q.sources ≡ None
   pub clock : is_limited q.clock ≡ true
   pub budget : budget_fits q.budget ≡ true
-  pub shape : is_shape q.shape ≡ true
-  pub lateness : is_timely q.clock.from_window q.shape ≡ true
-  pub triggers : (every_fits q.early && every_fits q.late) ≡ true
-  pub emit : may_write q.mode q.form ≡ true
+  pub shape : is_shape q.output.shape ≡ true
+  pub lateness : is_timely q.clock.from_window q.output.shape ≡ true
+  pub triggers : (every_fits q.output.early && every_fits q.output.late) ≡ true
+  pub emit : may_write q.output.mode q.output.form ≡ true
   pub condition : condition_refusal q InWhere part.Where q.condition ≡ None
   pub columns : columns_refusal q 0 q.columns ≡ None
   pub having : condition_refusal q InColumn part.Having q.having ≡ None
@@ -96,10 +94,10 @@ passed q h =
     let d3 = passed_both sources None d2.1 in
     let clock = unless (is_limited q.clock) Limit part.Clock in
     let budget = unless (budget_fits q.budget) Limit part.Budget in
-    let shape = unless (is_shape q.shape) Limit part.Window in
-    let lateness = unless (is_timely q.clock.from_window q.shape) SessionLateness part.Window in
-    let triggers = unless (every_fits q.early && every_fits q.late) Limit part.Trigger in
-    let emit = unless (may_write q.mode q.form) StreamNeedsAccumulating part.Emit in
+    let shape = unless (is_shape q.output.shape) Limit part.Window in
+    let lateness = unless (is_timely q.clock.from_window q.output.shape) SessionLateness part.Window in
+    let triggers = unless (every_fits q.output.early && every_fits q.output.late) Limit part.Trigger in
+    let emit = unless (may_write q.output.mode q.output.form) StreamNeedsAccumulating part.Emit in
     let n1 = passed_both clock (first (budget ∷ shape ∷ lateness ∷ triggers ∷ emit ∷ [])) g2.0 in
     let n2 = passed_both budget (first (shape ∷ lateness ∷ triggers ∷ emit ∷ [])) n1.1 in
     let n3 = passed_both shape (first (lateness ∷ triggers ∷ emit ∷ [])) n2.1 in
@@ -118,10 +116,10 @@ passed q h =
       sources = d3.0;
       clock = unless_none (is_limited q.clock) Limit part.Clock n1.0;
       budget = unless_none (budget_fits q.budget) Limit part.Budget n2.0;
-      shape = unless_none (is_shape q.shape) Limit part.Window n3.0;
-      lateness = unless_none (is_timely q.clock.from_window q.shape) SessionLateness part.Window n4.0;
-      triggers = unless_none (every_fits q.early && every_fits q.late) Limit part.Trigger n5.0;
-      emit = unless_none (may_write q.mode q.form) StreamNeedsAccumulating part.Emit n6.0;
+      shape = unless_none (is_shape q.output.shape) Limit part.Window n3.0;
+      lateness = unless_none (is_timely q.clock.from_window q.output.shape) SessionLateness part.Window n4.0;
+      triggers = unless_none (every_fits q.output.early && every_fits q.output.late) Limit part.Trigger n5.0;
+      emit = unless_none (may_write q.output.mode q.output.form) StreamNeedsAccumulating part.Emit n6.0;
       condition = e1.0;
       columns = e2.0;
       having = e3.0;

@@ -1,5 +1,5 @@
 -- The terms of a query: their tests, and what the code of its conditions, accumulators and columns adds up to.
-use Rattle.std.proofs.Common.{◌≡◌, ℕ, ◌+◌, List, map, Option, Some, None, refl, ap}
+use Rattle.std.proofs.Common.{◌≡◌, ℕ, ◌+◌, List, map, Option, Some, None, refl, ap, arith}
 use Rattle.std.specs.Prelude.{option_map}
 use Rattle.std.proofs.lemmas.Simd.{map-map}
 use Rattle.wsm_record.specs.declared.words.Kind.{Kind}
@@ -37,8 +37,7 @@ abbrev pub condition_need : Query → ℕ → Option Expr → ℕ
 condition_need q a o = ending_need (option_map (resolved q a) o)
 
 pub ended_size : (q : Query) (a : ℕ) (o : Option Expr) → ending_size (option_map (resolved q a) o) ≡ condition_size q a o + 1
-ended_size q a None = refl
-ended_size q a (Some e) = refl
+ended_size q a o = grind arith
 
 -- ---- accumulators
 

@@ -1,31 +1,29 @@
 -- Queries that select the same of the records in range, and have the same rows over panes in range, have the same lines for every input.
-use Rattle.std.proofs.Common.{◌≡◌, ℕ, suc, ◌+◌, ◌≤◌, Bool, true, false, ◌&&◌, ◌||◌, cond, List, [], ◌∷◌, ◌++◌, length, map, ℤ, Option, Some, None, Ok, Err, refl, sym, ap, subst, ◌∙◌, arith}
+use Rattle.std.proofs.Common.{◌≡◌, ℕ, suc, ◌≤◌, Bool, true, false, ◌&&◌, ◌||◌, cond, List, [], ◌∷◌, ◌++◌, length, map, ℤ, Option, Some, None, refl, sym, ap, subst, ◌∙◌, arith}
 use Rattle.std.proofs.lemmas.Int.{ints}
-use Rattle.std.specs.Prelude.{pos, negsuc, ◌≤ℤ◌, filter, filter_map, flat_map, is_none, nat_lt, not, option_map, option_and_then, unsigned_abs}
+use Rattle.std.specs.Prelude.{pos, ◌≤ℤ◌, filter, filter_map, flat_map, is_none, nat_lt, not, option_map, option_and_then, unsigned_abs}
 use Rattle.std.specs.Option.{IfSome}
-use Rattle.std.specs.List.{AllByRecursion, cons_option, list_all, list_any}
+use Rattle.std.specs.List.{AllByRecursion, list_all, list_any}
 use Rattle.std.specs.FinMap.Entries.{where_key}
 use Rattle.std.proofs.lemmas.Bool.{and_from, and_parts}
+use Rattle.wsm_semantics.proofs.Each.{filter_map-each}
 use Rattle.wsm_record.specs.declared.event.Value.{Value}
 use Rattle.wsm_record.specs.declared.cell.Cell.{Cell}
 use Rattle.wsm_record.specs.declared.words.Mode.{Mode}
-use Rattle.wsm_record.specs.declared.words.Mode.TheVariants.{Discarding, Accumulating, Retracting}
+use Rattle.wsm_record.specs.declared.words.Mode.TheVariants.{Retracting}
 use Rattle.wsm_record.specs.Event.{Event, Record, Watermark}
 use Rattle.wsm_record.specs.Schema.{fit_fields}
 use Rattle.wsm_windows.specs.declared.place.Place.{Place}
 use Rattle.wsm_windows.specs.Limits.{is_size, is_span, is_time}
-use Rattle.wsm_windows.specs.Places.{place_cmp, at, window_of}
+use Rattle.wsm_windows.specs.Places.{place_cmp, at}
 use Rattle.wsm_admission.specs.declared.verdict.Refusal.{Refusal}
-use Rattle.wsm_admission.specs.Clock.{admitted_count, late_count, refused_count}
-use Rattle.wsm_admission.specs.Admission.{counter}
-use Rattle.wsm_semantics.specs.declared.out_row.OutRow.TheVariants.{Pane}
-use Rattle.wsm_semantics.specs.Query.{Query as Meant, Datum, datum, Effect, Selects, Rises, Nothing, effect_of, selection, mark, raises, verdict_on, selected}
+use Rattle.wsm_semantics.specs.Query.{Query as Meant, Datum, datum, Effect, Selects, Nothing, effect_of, selection, mark, raises, verdict_on, selected}
 use Rattle.wsm_semantics.specs.Panes.{windows_among, is_there, is_live_at, with_contents, panes, held}
-use Rattle.wsm_semantics.specs.Firings.{Firing, holds, shows, fire, firings_by, is_shown, firings, firings_so_far, row_of, pane_rows}
+use Rattle.wsm_semantics.specs.Firings.{Firing, holds, shows, fire, firings_by, is_shown, firings, firings_so_far, pane_rows}
 use Rattle.wsm_semantics.specs.Relation.{sorted_rows, relation_at, relation, stream_rows, chosen_rows, streamed, turn_rows}
 use Rattle.wsm_semantics.specs.Retractions.{standing_for, panes_before_drops, is_same, withdrawn, written_of, retracted, retract_rows}
 use Rattle.wsm_semantics.specs.StandingFirings.{standing}
-use Rattle.wsm_semantics.specs.Lines.{Row, Out, End, events, refusal_lines, turn_lines, lines_so_far, fault_count, end_line, all_lines}
+use Rattle.wsm_semantics.specs.Lines.{Row, turn_lines, lines_so_far, end_line, all_lines}
 use Rattle.wsm_machine.specs.Meaning.{query_of}
 use Rattle.wsm_query.specs.Tree.{Query}
 use Rattle.wsm_compiler.specs.Program.{program_of}
@@ -34,16 +32,11 @@ use Rattle.wsm_compiler.specs.SameMeaning.{record_in_range, IsPane, IsAccepted}
 use Rattle.wsm_compiler.specs.Accepted.{states_enough}
 use Rattle.wsm_compiler.specs.Ranges.{ranges_fit}
 use Rattle.wsm_compiler.specs.SameLines.{SameLines, TextMeans}
-use Rattle.wsm_machine.proofs.FittingStacks.{no}
 use Rattle.wsm_compiler.proofs.Accepted.{accepted_exactly}
 use Rattle.wsm_compiler.proofs.Texts.{parsed_is_spelt}
 use Rattle.wsm_compiler.proofs.Passed.{passed}
 use Rattle.wsm_compiler.proofs.FiringSets.{IsFiringSet, IsOfSet, taken_fits, firings_of_sets, so_far_of_sets, standing_of_set, withdrawn_of_sets, all_each}
 use Rattle.wsm_compiler.proofs.TotalPanes.{stands_for_meant}
-
-found_same : {A B : Type 0} (f g : A → Option B) (xs : List A) → AllByRecursion (λ x. f x ≡ g x) xs → filter_map f xs ≡ filter_map g xs
-found_same f g [] h = refl
-found_same f g (x ∷ xs) h = (λ i. cons_option (h.0 i) (found_same f g xs h.1 i))
 
 module _ (m : Meant) (sel : ℕ → List Value → Bool) (row : ℕ → List Datum → Option (List Cell)) where
   -- the clauses of the first, with other meanings of WHERE and of rows
@@ -79,9 +72,7 @@ module _ (m : Meant) (sel : ℕ → List Value → Bool) (row : ℕ → List Dat
     -- ---- firings
 
     fire_same : (shown : Datum → Bool) (turn : ℕ) (x : Effect) (p : Place) (all : List Datum) → fire shown m turn x p all ≡ fire shown other turn x p all
-    fire_same shown turn (Selects d) p all = refl
-    fire_same shown turn (Rises old new) p all = refl
-    fire_same shown turn Nothing p all = refl
+    fire_same shown turn x p all = grind arith
 
     by_same : (shown also : Place → Datum → Bool) → shown ≡ also → (past : List Event) (e : Event) → firings_by shown m past e ≡ firings_by also other past e
     by_same shown also h past e = (λ i. filter_map (λ p. fire_same (h i p.0) (length past) (effect_same past e i) p.0 p.1 i) (panes_same (e ∷ past) i))
@@ -100,14 +91,10 @@ module _ (m : Meant) (sel : ℕ → List Value → Bool) (row : ℕ → List Dat
     -- ---- rows
 
     pane_rows_same : (past : List Event) (e : Event) → pane_rows m past e ≡ pane_rows other past e
-    pane_rows_same past e =
-        found_same (row_of m) (row_of other) (firings m past e)
-        (all_each (IsOfSet m) (λ f. row_of m f ≡ row_of other f) (λ f h. ap (option_map (Pane f.kind f.place.key (window_of f.place))) (agree.rows f.place.key f.fired h)) (firings m past e) (firings_of_sets m past e))
-        ∙ ap (filter_map (row_of other)) (firings_same past e)
+    pane_rows_same past e = grind (arith, filter_map-each, all_each, IsOfSet, firings_of_sets, firings_same)
 
     standing_row : (o : Option Firing) → IfSome o (IsOfSet m) → option_and_then (λ f. m.row f.place.key f.fired) o ≡ option_and_then (λ f. row f.place.key f.fired) o
-    standing_row None h = refl
-    standing_row (Some f) h = agree.rows f.place.key f.fired h
+    standing_row o h = grind arith
 
     abbrev standing_in : List Firing → Place × List Datum → Option (List Cell)
     standing_in fs p = option_and_then (λ f. m.row f.place.key f.fired) (standing m fs p.0 p.1)
@@ -123,7 +110,7 @@ module _ (m : Meant) (sel : ℕ → List Value → Bool) (row : ℕ → List Dat
     relation_at_same past e =
         let fs = firings_so_far m (e ∷ past) in
         ap sorted_rows
-        (found_same (standing_in fs) (other_standing_in fs) (held m past) (all_standing fs (so_far_of_sets m (e ∷ past)) (held m past))
+        (filter_map-each (standing_in fs) (other_standing_in fs) (held m past) (all_standing fs (so_far_of_sets m (e ∷ past)) (held m past))
         ∙ (λ i. filter_map (other_standing_in (so_far_same (e ∷ past) i)) (held_same past i)))
 
     relation_same : (past : List Event) → relation m past ≡ relation other past
@@ -149,14 +136,13 @@ module _ (m : Meant) (sel : ℕ → List Value → Bool) (row : ℕ → List Dat
 
     written_same : (past : List Event) (e : Event) → filter_map (written_of m) (withdrawn m past e) ≡ filter_map (written_of other) (withdrawn other past e)
     written_same past e =
-        found_same (written_of m) (written_of other) (withdrawn m past e)
+        filter_map-each (written_of m) (written_of other) (withdrawn m past e)
         (all_each (IsOfSet m) (λ f. written_of m f ≡ written_of other f) (λ f h. ap (option_map (λ (columns : List Cell). (f.place, columns))) (agree.rows f.place.key f.fired h)) (withdrawn m past e) (withdrawn_of_sets m past e))
         ∙ ap (filter_map (written_of other)) (withdrawn_same past e)
 
     retract_rows_same : (mode : Mode) (past : List Event) (e : Event) → retract_rows mode m past e ≡ retract_rows mode other past e
-    retract_rows_same Discarding past e = refl
-    retract_rows_same Accumulating past e = refl
     retract_rows_same Retracting past e = ap retracted (written_same past e)
+    retract_rows_same mode past e = refl
 
     rows_same : (past : List Event) (e : Event) → turn_rows m past e ≡ turn_rows other past e
     rows_same past e = (λ i. chosen_rows m.form (retract_rows_same m.mode past e i ++ pane_rows_same past e i) (streamed_same past e i))
@@ -164,20 +150,14 @@ module _ (m : Meant) (sel : ℕ → List Value → Bool) (row : ℕ → List Dat
     -- ---- lines
 
     turn_same : (before : List Row) (r : Row) → turn_lines m before r ≡ turn_lines other before r
-    turn_same before (Err fault) = refl
-    turn_same before (Ok e) =
-        let past = events before in
-        (λ i. refusal_lines (counter (length before + 1)) (verdict_on m past e) ++ map Out (rows_same past e i))
+    turn_same before r = grind (arith, rows_same)
 
     so_far_lines_same : (rows : List Row) → lines_so_far m rows ≡ lines_so_far other rows
     so_far_lines_same [] = refl
     so_far_lines_same (r ∷ before) = (λ i. so_far_lines_same before i ++ turn_same before r i)
 
     end_same : (rows : List Row) → end_line m rows ≡ end_line other rows
-    end_same rows =
-        let past = events rows in
-        ap (λ (fs : List Firing). End (counter (length rows)) (counter (admitted_count m.clock m.shape m.declared past)) (counter (late_count m.clock m.shape m.declared past))
-        (counter (fault_count rows + refused_count m.clock m.shape m.declared past)) (counter (length fs))) (so_far_same past)
+    end_same rows = grind (arith, so_far_same)
 
     lines_same : (rows : List Row) → all_lines m rows ≡ all_lines other rows
     lines_same rows = (λ i. so_far_lines_same rows i ++ end_same rows i ∷ [])
@@ -185,8 +165,7 @@ module _ (m : Meant) (sel : ℕ → List Value → Bool) (row : ℕ → List Dat
 -- ---- the text and its program
 
 few_of : (n : ℕ) (records : ℤ) → is_size records ≡ true → n ≤ unsigned_abs records → pos n ≤ℤ records
-few_of n (pos r) h l = omega (arith, ints, l)
-few_of n (negsuc r) h l = no h
+few_of n records h l = grind (arith, ints)
 
 length-values : (ds : List Datum) → length (map (λ (d : Datum). d.values) ds) ≡ length ds
 length-values [] = refl

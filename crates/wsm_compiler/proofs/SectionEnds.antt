@@ -1,16 +1,16 @@
 -- Sections that end by a return: whether one of their places has a fault.
-use Rattle.std.proofs.Common.{◌≡◌, ℕ, ◌+◌, ◌≤◌, ◌<◌, Bool, true, false, ◌||◌, not, List, [], ◌∷◌, ◌++◌, length, Option, Some, None, refl, sym, ap, subst, ◌∙◌, arith, length-append}
+use Rattle.std.proofs.Common.{◌≡◌, ℕ, ◌+◌, ◌≤◌, ◌<◌, Bool, true, false, ◌||◌, List, [], ◌∷◌, ◌++◌, length, Option, Some, None, refl, sym, ap, subst, ◌∙◌, arith, length-append}
 use Rattle.std.specs.Prelude.{is_some}
-use Rattle.std.proofs.Math.Bool.{or-false}
+use Rattle.std.proofs.Math.Bool.{or-false, or-true}
 use Rattle.std.proofs.lemmas.Option.{same_Some}
 use Rattle.wsm_program.specs.declared.instr.Instr.{Instr}
 use Rattle.wsm_program.specs.declared.instr.Instr.TheVariants.{Return}
 use Rattle.wsm_program.specs.declared.SectionId.{SectionId}
 use Rattle.wsm_program.specs.Program.{Program, section}
 use Rattle.wsm_rules.specs.declared.known.Known.{Known}
-use Rattle.wsm_rules.specs.Labels.{State, Ranges, Reached, Visit, same_types}
+use Rattle.wsm_rules.specs.Labels.{State, Ranges, Visit, same_types}
 use Rattle.wsm_rules.specs.Rules.{Setting, fold_missing, section_fault, setting, entry, fault_in}
-use Rattle.wsm_compiler.proofs.Visits.{extended, added, added_append, length-added, visits_are, faults, faults_append, or_true}
+use Rattle.wsm_compiler.proofs.Visits.{extended, added, added_append, length-added, visits_are, faults, faults_append}
 use Rattle.wsm_machine.proofs.FittingStacks.{no}
 use Rattle.wsm_compiler.proofs.Parts.{Comes, Labelled, shorter, continued, visit_is, fault_is}
 use Rattle.wsm_compiler.proofs.Tests.{tested, with_known, pushed_on}
@@ -30,7 +30,7 @@ pub sequence_ends : (e : State) (c : Setting) (k : ℕ) (is js : List Instr) (s 
 sequence_ends e c k is js s None g hi hj first rest vs at =
     let a = first vs (shorter e vs k s (length is) (length js) (subst (λ m. Comes e vs k s m) (length-append is js) at)) in
     let ws = extended e c.ranges vs is in
-    ap (faults c) (added_append e c.ranges vs is js) ∙ faults_append c (added e c.ranges ws js) (added e c.ranges vs is) ∙ ap (λ b. faults c (added e c.ranges ws js) || b) a.faulty ∙ or_true (faults c (added e c.ranges ws js))
+    ap (faults c) (added_append e c.ranges vs is js) ∙ faults_append c (added e c.ranges ws js) (added e c.ranges vs is) ∙ ap (λ b. faults c (added e c.ranges ws js) || b) a.faulty ∙ or-true (faults c (added e c.ranges ws js))
 sequence_ends e c k is js s (Some t) g hi hj first rest vs at =
     let whole = subst (λ m. Comes e vs k s m) (length-append is js) at in
     let a = first vs (shorter e vs k s (length is) (length js) whole) in
@@ -51,16 +51,12 @@ follow_ends e c k n is js s (Some x) g hn hi hj first rest =
 
 -- it has no fault on exactly what its section ends with
 pub return_ends : (e : State) (c : Setting) (k : ℕ) (s : State) → same_types s.stack c.ends ≡ true → fold_missing c.section Return s.folded ≡ false → length s.stack ≤ 32 → Ends e c k (Return ∷ []) s false
-return_ends e c k s types folded low vs at =
-    ap (λ w. faults c (w ∷ [])) (visit_is e c.ranges Return vs k s at.long at.label) ∙ fault_is c k Return (Reached s)
-    ∙ tested c k Return s false false false false false false false false false false false
-    refl (not_under (length s.stack)) (ap not types) refl refl refl refl (room_at_jump (length s.stack) low) folded refl refl
+return_ends e c k s types folded low vs at = grind (arith, faults, visit_is, fault_is, tested, not_under, room_at_jump)
 
 -- ---- a whole section
 
 some_fault : (c : Setting) (vs : List Visit) → 0 < length vs → is_some (section_fault c vs) ≡ faults c vs
-some_fault c [] h = absurd (omega (arith, h))
-some_fault c (v ∷ vs) h = refl
+some_fault c vs h = grind arith
 
 pub whole_section : (p : Program) (id : SectionId) (r : Ranges) (b : Bool) → 0 < length (section p id) → Ends (entry p) (setting p id r) 0 (section p id) (entry p) b → is_some (fault_in p id r) ≡ b
 whole_section p id r b long h =

@@ -1,10 +1,9 @@
 -- Runs of WHERE and of FIRE end with the meanings of their expressions, or trap where one has none.
-use Rattle.std.proofs.Common.{◌≡◌, inl, inr, ℕ, ◌+◌, ◌≤◌, ◌<◌, true, ◌&&◌, not, cond, List, [], ◌∷◌, ◌++◌, length, map, reverse, replicate, Option, Some, None, Ok, refl, sym, ap, subst, ◌∙◌, arith, append_assoc, length-append, append-nil}
+use Rattle.std.proofs.Common.{◌≡◌, inl, inr, ℕ, ◌+◌, ◌≤◌, ◌<◌, true, ◌&&◌, List, [], ◌∷◌, ◌++◌, length, map, reverse, replicate, Option, Some, None, Ok, refl, sym, ap, subst, ◌∙◌, arith, append_assoc, length-append, append-nil}
 use Rattle.std.proofs.lemmas.List.{reverse-append}
 use Rattle.std.specs.Prelude.{slice_get}
 use Rattle.std.specs.List.{flat_map}
 use Rattle.wsm_record.specs.declared.event.Value.{Value}
-use Rattle.wsm_record.specs.declared.event.Value.TheVariants.{Int, Bool as Truth', Enum}
 use Rattle.wsm_record.specs.declared.words.CellType.{CellType}
 use Rattle.wsm_record.specs.declared.words.CellType.TheVariants as types
 use Rattle.wsm_program.specs.declared.instr.Instr.{Instr}
@@ -13,11 +12,10 @@ use Rattle.wsm_program.specs.declared.instr.SectionId.TheVariants.{Where, Fire}
 use Rattle.wsm_program.specs.declared.program.Costs.{Costs}
 use Rattle.wsm_record.specs.declared.cell.Cell.{Cell}
 use Rattle.wsm_machine.specs.declared.outcome.Outcome.TheVariants.{Done}
-use Rattle.wsm_machine.specs.declared.outcome.Trap.TheVariants.{Underflow, BadReturn}
 use Rattle.wsm_machine.specs.declared.run.Ran.{Ran}
 use Rattle.wsm_machine.specs.Inputs.{Inputs}
-use Rattle.wsm_machine.specs.Step.{Setting, setting, State, Ends, step, unless, type_of, is_type, are_types, is_result}
-use Rattle.wsm_machine.specs.Run.{run_at, act, go_on, ended}
+use Rattle.wsm_machine.specs.Step.{Setting, setting, State, type_of, is_type, are_types, is_result}
+use Rattle.wsm_machine.specs.Run.{run_at, ended}
 use Rattle.wsm_machine.proofs.Runs.{run_step}
 use Rattle.wsm_query.specs.Tree.{Query, Expr}
 use Rattle.wsm_check.specs.Types.{typed}
@@ -35,7 +33,6 @@ use Rattle.wsm_compiler.specs.Runs.{of_ty, cell, Serves, ServesAccs, state, topp
 use Rattle.wsm_compiler.specs.Sections.{in_bounds, condition_value, Leaves, on_stack, fired_stack, WhereRuns, FireRuns}
 use Rattle.wsm_machine.proofs.FittingStacks.{no}
 use Rattle.wsm_machine.proofs.ReturnedStacks.{are_types-same}
-use Rattle.wsm_compiler.proofs.Parts.{none≢some}
 use Rattle.wsm_compiler.proofs.KnownFields.{in_column}
 use Rattle.wsm_compiler.proofs.QueryTerms.{condition_size, condition_need, ended_size, columns_size, columns_need}
 use Rattle.wsm_compiler.proofs.Sizes.{length-condition, sizes_are_lengths, some_columns_size}
@@ -71,17 +68,12 @@ stands_all is = stands_behind [] is
 -- ---- the return
 
 pub return_ends : (c : Setting) (s : State) → slice_get c.code s.place ≡ Some instr.Return → is_result c s ≡ true → run_at c s ≡ ended Done 1 s
-return_ends c s at h =
-    let ends : step c s instr.Return ≡ Ends = (λ i. unless (cond (not_under (length s.stack) i) (Some Underflow) (cond (not (h i)) (Some BadReturn) None)) Ends) in
-    run_step c s ∙ ap (act c (run_at c) s) at ∙ ap (go_on (run_at c) s) ends
+return_ends c s at h = grind (arith, not_under, run_step)
 
 -- what a run leaves that comes to a return, or traps
 pub comes_to : (c : Setting) (s : State) (o : Option State) (stack : Option (List Cell)) → Gives c s o →
     (o ≡ None → stack ≡ None) → ((t : State) → o ≡ Some t → (stack ≡ Some t.stack) × (run_at c t ≡ ended Done 1 t)) → Leaves (run_at c s) stack
-comes_to c s None stack g none some = subst (λ x. Leaves (run_at c s) x) (sym (none refl)) g
-comes_to c s (Some t) stack g none some =
-    let h = some t refl in
-    subst (λ x. Leaves (run_at c s) x) (sym h.0) (ap (λ (r : Ran). r.outcome) g.1 ∙ ap (λ (r : Ran). r.outcome) h.1, ap (λ (r : Ran). r.stack) g.1 ∙ ap (λ (r : Ran). r.stack) h.1)
+comes_to c s o stack g none some = grind arith
 
 -- ---- conditions
 
@@ -100,43 +92,26 @@ module _ (c : Setting) (q : Query) (around : Around) (s : Scene) (serves : Serve
   condition_gives k a (Some e) js m h accs at inside stack folds room = code_means k a e m types.Bool h accs (split_code q c.code k a e js at).0 inside stack folds room
 
   condition_has : (a : ℕ) (o : Option Expr) → ConditionTyped q around o → ServesAccs c around s a (in_condition o) → of_ty types.Bool (condition_value q s a o) ≡ true
-  condition_has a None h accs = refl
-  condition_has a (Some e) h accs = means_has a e types.Bool h accs
+  condition_has a o h accs = grind (arith, means_has)
 
   condition_stands : (k a : ℕ) (o : Option Expr) (js : List Instr) → StandsAt c.code k (condition_code q k a o ++ js) → StandsAt c.code (k + condition_size q a o) js
-  condition_stands k a None js h = h.1
-  condition_stands k a (Some e) js h = (split_code q c.code k a e js h).1
+  condition_stands k a o js h = grind (arith, split_code)
 
 truth_type : (v : Value) → of_ty types.Bool (Some v) ≡ true → type_of (cell types.Bool v) ≡ types.Bool
-truth_type (Int n) h = no h
-truth_type (Truth' b) h = refl
-truth_type (Enum i) h = no h
+truth_type v h = grind arith
 
 cell_has : (t : CellType) (v : Value) → of_ty t (Some v) ≡ true → type_of (cell t v) ≡ t
-cell_has types.Int (Int n) h = refl
-cell_has types.Int (Truth' b) h = no h
-cell_has types.Int (Enum i) h = no h
-cell_has types.Bool (Int n) h = no h
-cell_has types.Bool (Truth' b) h = refl
-cell_has types.Bool (Enum i) h = no h
-cell_has (types.Enum e) (Int n) h = no h
-cell_has (types.Enum e) (Truth' b) h = no h
-cell_has (types.Enum e) (Enum i) h = refl
+cell_has t v h = grind arith
 
 -- ---- WHERE
 
 -- the state behind a condition, and what stands on its stack
 none_topped : (k : ℕ) (stack : List Cell) (folds : List (Option Value)) (o : Option Value) → topped k stack folds types.Bool o ≡ None → on_stack stack o ≡ None
-none_topped k stack folds None e = refl
-none_topped k stack folds (Some v) e = none≢some (sym e)
+none_topped k stack folds o e = grind arith
 
 topped_returns : (c : Setting) (k : ℕ) (stack : List Cell) (folds : List (Option Value)) (o : Option Value) → of_ty types.Bool o ≡ true → slice_get c.code k ≡ Some instr.Return →
     ((v : Value) → type_of (cell types.Bool v) ≡ types.Bool → is_result c (state k (cell types.Bool v ∷ stack) folds) ≡ true) → (t : State) → topped k stack folds types.Bool o ≡ Some t → (on_stack stack o ≡ Some t.stack) × (run_at c t ≡ ended Done 1 t)
-topped_returns c k stack folds None has at good t e = none≢some e
-topped_returns c k stack folds (Some v) has at good t e =
-    let u = state k (cell types.Bool v ∷ stack) folds in
-    let is : u ≡ t = ap (λ o. elim o [ None ↦ u | Some z ↦ z ]) e in
-    (ap (λ (z : State). Some z.stack) is, subst (λ z. run_at c z ≡ ended Done 1 z) is (return_ends c u at (good v (truth_type v has))))
+topped_returns c k stack folds o has at good t e = grind (arith, return_ends, truth_type)
 
 pub where_runs : (q : Query) → WhereRuns q
 where_runs q checked spelt d fit =

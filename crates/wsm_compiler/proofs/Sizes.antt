@@ -1,5 +1,5 @@
 -- Lengths of code, and that no part of it is empty.
-use Rattle.std.proofs.Common.{◌≡◌, ℕ, suc, ◌+◌, ◌<◌, true, false, List, [], ◌∷◌, ◌++◌, length, map, Option, Some, None, refl, ap, ap₂, ◌∙◌, arith, length-append}
+use Rattle.std.proofs.Common.{◌≡◌, ℕ, suc, ◌+◌, ◌<◌, true, false, List, [], ◌∷◌, ◌++◌, length, map, Option, refl, ap, ap₂, ◌∙◌, arith, length-append}
 use Rattle.std.specs.Prelude.{option_map}
 use Rattle.wsm_program.specs.declared.instr.Instr.{Instr}
 use Rattle.wsm_program.specs.declared.instr.Instr.TheVariants as instr
@@ -15,8 +15,7 @@ use Rattle.wsm_compiler.specs.Sized.{SizesAreLengths}
 use Rattle.wsm_compiler.proofs.QueryTerms.{condition_size, ended_size, folds_size, columns_size}
 
 pub length-test_code : {A : Type 0} (o : Option A) (is : List Instr) (n : ℕ) → length is ≡ n → length (test_code o is) ≡ unless_tested o n
-length-test_code None is n h = h
-length-test_code (Some t) is n h = refl
+length-test_code o is n h = grind arith
 
 pub length-choice : (jump : ℕ → Instr) (j : ℕ) (first : List Instr) (m : ℕ) (second : List Instr) (n : ℕ) → length (choice jump j first m second n) ≡ length first + length second + 2
 length-choice jump j first m second n = let l = length-append first (instr.Jump (j + m + 1 + n) ∷ second) in omega (arith, l)
@@ -24,9 +23,7 @@ length-choice jump j first m second n = let l = length-append first (instr.Jump 
 -- a test, and the choice behind it
 length-chosen : {A : Type 0} (o : Option A) (is : List Instr) (jump : ℕ → Instr) (j : ℕ) (first : List Instr) (m : ℕ) (second : List Instr) (n : ℕ) →
     length (test_code o is ++ choice jump j first m second n) ≡ unless_tested o (length is) + (length first + length second) + 2
-length-chosen o is jump j first m second n =
-    let l = length-append (test_code o is) (choice jump j first m second n) in
-    omega (arith, l, length-test_code o is (length is) refl, length-choice jump j first m second n)
+length-chosen o is jump j first m second n = grind (arith, length-append, length-test_code, length-choice)
 
 -- a term has as many instructions as its size says
 pub length-term_code : (k : ℕ) (t : Term) → length (term_code k t) ≡ term_size t
@@ -59,8 +56,7 @@ length-code q k a e = length-term_code k (resolved q a e)
 -- ---- sections
 
 length-ending : (k : ℕ) (o : Option Term) → length (ending_code k o) ≡ ending_size o
-length-ending k None = refl
-length-ending k (Some t) = length-append (term_code k t) (instr.Return ∷ []) ∙ ap (λ n. n + 1) (length-term_code k t)
+length-ending k o = grind (arith, length-append, length-term_code)
 
 length-foldings : (k a : ℕ) (fs : List Folding) → length (foldings_code k a fs) ≡ foldings_size fs
 length-foldings k a [] = refl
@@ -102,8 +98,7 @@ pub some_need : (q : Query) (a : ℕ) (e : Expr) → 0 < need q a e
 some_need q a e = (not_empty (resolved q a e)).1
 
 some_ending : (o : Option Term) → 0 < ending_size o
-some_ending None = omega arith
-some_ending (Some t) = omega arith
+some_ending o = grind arith
 
 pub some_folds_size : (q : Query) (accs : List Acc) → 0 < folds_size q accs
 some_folds_size q [] = omega arith

@@ -1,5 +1,5 @@
 -- The rules at one instruction of generated code.
-use Rattle.std.proofs.Common.{◌≡◌, ℕ, suc, ◌+◌, ◌<◌, Bool, true, false, ◌&&◌, ◌||◌, not, cond, List, [], ◌∷◌, ◌++◌, length, drop, Option, Some, None, refl, sym, ap, ◌∙◌, arith, length-append}
+use Rattle.std.proofs.Common.{◌≡◌, ℕ, suc, ◌<◌, Bool, true, false, ◌&&◌, ◌||◌, not, cond, List, [], ◌∷◌, ◌++◌, length, drop, Option, Some, None, refl, sym, ap, ◌∙◌, arith, length-append}
 use Rattle.std.specs.Prelude.{ℤ, is_some, is_none, option_map, nat_eq, nat_lt}
 use Rattle.std.specs.List.{list_any}
 use Rattle.std.proofs.Math.Bool.{and-false}
@@ -8,14 +8,12 @@ use Rattle.wsm_record.specs.declared.Kind.{Kind}
 use Rattle.wsm_program.specs.declared.Instr.{Instr}
 use Rattle.wsm_program.specs.declared.Instr.TheVariants.{Jump, JumpIfFalse, Test, Fold, Return}
 use Rattle.wsm_program.specs.declared.SectionId.{SectionId}
-use Rattle.wsm_program.specs.declared.SectionId.TheVariants.{Where, Update, Fire}
 use Rattle.wsm_rules.specs.declared.rejection.Rule.{Rule}
 use Rattle.wsm_rules.specs.declared.known.Known.{Known}
-use Rattle.wsm_program.specs.Instructions.{next, may_stand, bad_jump, goes_on, ends}
+use Rattle.wsm_program.specs.Instructions.{next, may_stand, bad_jump, goes_on}
 use Rattle.wsm_rules.specs.Labels.{State, Reached, pops, pushed, along, folded_after}
-use Rattle.wsm_rules.specs.Rules.{Setting, types_fit, folds_again, may_divide_by_zero, accumulator_leaves, overflows, fold_missing, first_of, tests, fault_of}
-use Rattle.wsm_machine.proofs.FittingStacks.{no}
-use Rattle.wsm_compiler.proofs.Parts.{none≢some, Labelled, one}
+use Rattle.wsm_rules.specs.Rules.{Setting, types_fit, folds_again, may_divide_by_zero, accumulator_leaves, overflows, fold_missing, first_of, fault_of}
+use Rattle.wsm_compiler.proofs.Parts.{Labelled, one}
 
 any_test : (ts : List (Rule × Bool)) → is_some (first_of ts) ≡ list_any (λ t. t.1) ts
 any_test [] = refl
@@ -27,9 +25,7 @@ pub tested : (c : Setting) (p : ℕ) (i : Instr) (s : State) (b1 b2 b3 b4 b5 b6 
     may_divide_by_zero i s.stack ≡ b5 → is_none (pushed c.ranges i s) ≡ b6 → accumulator_leaves c.records c.kinds i s.stack ≡ b7 →
     overflows s.stack (pushed c.ranges i s) (pops i) ≡ b8 → fold_missing c.section i s.folded ≡ b9 → bad_jump c.n p i ≡ b10 → (goes_on i && nat_eq (suc p) c.n) ≡ b11 →
     is_some (fault_of c p i (Reached s)) ≡ (b1 || (b2 || (b3 || (b4 || (b5 || (b6 || (b7 || (b8 || (b9 || (b10 || (b11 || false)))))))))))
-tested c p i s b1 b2 b3 b4 b5 b6 b7 b8 b9 b10 b11 h1 h2 h3 h4 h5 h6 h7 h8 h9 h10 h11 =
-    any_test (tests c p i s)
-    ∙ (λ j. h1 j || (h2 j || (h3 j || (h4 j || (h5 j || (h6 j || (h7 j || (h8 j || (h9 j || (h10 j || (h11 j || false)))))))))))
+tested c p i s b1 b2 b3 b4 b5 b6 b7 b8 b9 b10 b11 h1 h2 h3 h4 h5 h6 h7 h8 h9 h10 h11 = grind (arith, any_test)
 
 -- an instruction that goes on to the next place, and folds nothing
 abbrev pub plain : Instr → Bool
@@ -41,39 +37,25 @@ plain Return = false
 plain _ = true
 
 pub plain_next : (i : Instr) (k : ℕ) → plain i ≡ true → next i k ≡ suc k ∷ []
-plain_next (Jump t) k h = no h
-plain_next (JumpIfFalse t) k h = no h
-plain_next (Test x t) k h = no h
-plain_next Return k h = no h
-plain_next i k h = refl
+plain_next i k h = grind arith
 
 plain_again : (i : Instr) (fs : List Bool) → plain i ≡ true → folds_again i fs ≡ false
-plain_again (Fold a) fs h = no h
-plain_again i fs h = refl
+plain_again i fs h = grind arith
 
 plain_leaves : (n : ℤ) (ks : List Kind) (i : Instr) (s : List Known) → plain i ≡ true → accumulator_leaves n ks i s ≡ false
-plain_leaves n ks (Fold a) s h = no h
-plain_leaves n ks i s h = refl
+plain_leaves n ks i s h = grind arith
 
 plain_missing : (id : SectionId) (i : Instr) (fs : List Bool) → plain i ≡ true → fold_missing id i fs ≡ false
-plain_missing Update Return fs h = no h
-plain_missing Where i fs h = and-false (ends i)
-plain_missing Fire i fs h = and-false (ends i)
-plain_missing Update i fs h = refl
+plain_missing id i fs h = grind (arith, and-false)
 
 plain_jumps : (n p : ℕ) (i : Instr) → plain i ≡ true → bad_jump n p i ≡ false
-plain_jumps n p (Jump t) h = no h
-plain_jumps n p (JumpIfFalse t) h = no h
-plain_jumps n p (Test x t) h = no h
-plain_jumps n p i h = refl
+plain_jumps n p i h = grind arith
 
 plain_along : (i : Instr) → plain i ≡ true → (p q : ℕ) (s : State) → along i p q s ≡ s
-plain_along (Test x t) h p q s = no h
-plain_along i h p q s = refl
+plain_along i h p q s = grind arith
 
 plain_folded : (i : Instr) (fs : List Bool) → plain i ≡ true → folded_after i fs ≡ fs
-plain_folded (Fold a) fs h = no h
-plain_folded i fs h = refl
+plain_folded i fs h = grind arith
 
 -- a place has one behind it
 pub not_last : (b : Bool) (p n : ℕ) → suc p < n → (b && nat_eq (suc p) n) ≡ false
@@ -93,28 +75,18 @@ enough : (ops s : List Known) (n : ℕ) → n ≡ length ops → nat_lt (length 
 enough ops s n h = let l = length-append ops s in grind (arith, l, h)
 
 has_room : (ops s : List Known) (p : Option Known) (o : Option (List Known)) (n : ℕ) → o ≡ option_map (λ x. x ∷ []) p → n ≡ length ops → length s < 32 → overflows (ops ++ s) o n ≡ false
-has_room ops s None o n e h l = ap (λ x. overflows (ops ++ s) x n) e
-has_room ops s (Some x) o n e h l =
-    let m = length-append ops s in
-    let f : nat_lt (32 + n) (length (ops ++ s) + 1) ≡ false = grind (arith, m, h, l) in
-    ap (λ x. overflows (ops ++ s) x n) e ∙ f
+has_room ops s p o n e h l = grind (arith, length-append)
 
 none_alone : (p : Option Known) → is_none (option_map (λ (x : Known). x ∷ []) p) ≡ is_none p
-none_alone None = refl
-none_alone (Some x) = refl
+none_alone p = grind arith
 
 -- it faults where it may not stand, where types don't fit, or where arithmetic has no interval
 verdict : (stands types divides : Bool) (p : Option Known) → (divides ≡ true → is_none p ≡ true) →
     (not stands || (false || (not types || (false || (divides || (is_none p || (false || (false || (false || (false || (false || false))))))))))) ≡ is_none (cond (stands && types) p None)
-verdict false types divides p h = refl
-verdict true false divides p h = refl
-verdict true true true p h = sym (h refl)
-verdict true true false None h = refl
-verdict true true false (Some x) h = refl
+verdict stands types divides p h = grind arith
 
 map_twice : {A B D : Type 0} (f : A → B) (g : B → D) (o : Option A) → option_map g (option_map f o) ≡ option_map (λ x. g (f x)) o
-map_twice f g None = refl
-map_twice f g (Some x) = refl
+map_twice f g o = grind arith
 
 -- what is pushed, in place of the first n values
 abbrev laid : List Known → List Known → List Bool → ℕ → List Known → State
@@ -124,8 +96,7 @@ abbrev over : List Known → List Known → List Bool → Known → State
 over fields below fs x = record { stack = x ∷ below; folded = fs; fields = fields }
 
 given_some : (s t : State) (b : Bool) (p : Option Known) → pushed_on s (cond b p None) ≡ Some t → pushed_on s p ≡ Some t
-given_some s t true p h = h
-given_some s t false p h = none≢some h
+given_some s t b p h = grind arith
 
 -- a plain instruction with its operands on the stack pushes what it makes of them, or faults
 pub acting : (e : State) (c : Setting) (k : ℕ) (i : Instr) (ops : List Known) (s : State) (types : Bool) (p : Option Known) →

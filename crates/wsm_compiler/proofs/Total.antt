@@ -1,12 +1,11 @@
 -- Runs of WHERE and UPDATE of an accepted query on records in range: they end, and so what they compute has values in 64 bits.
-use Rattle.std.proofs.Common.{◌≡◌, ℤ, inl, inr, ℕ, Bool, true, false, ◌&&◌, cond, List, [], ◌∷◌, length, map, Option, Some, None, Result, Ok, Err, refl, sym, ap, subst, ◌∙◌, arith}
-use Rattle.std.specs.Prelude.{nat_lt, is_ok, pos, negsuc, int_le, ◌≤ℤ◌}
+use Rattle.std.proofs.Common.{◌≡◌, ℤ, ℕ, Bool, true, false, ◌&&◌, cond, List, [], ◌∷◌, map, Option, Some, None, Result, Ok, refl, sym, ap, subst, ◌∙◌, arith}
+use Rattle.std.specs.Prelude.{is_ok, pos, negsuc, int_le, ◌≤ℤ◌}
 use Rattle.std.proofs.lemmas.Int.{ints}
 use Rattle.std.specs.List.{AllByRecursion, list_all}
 use Rattle.std.proofs.lemmas.Bool.{and_from, and_parts}
 use Rattle.wsm_record.specs.declared.event.Value.{Value}
-use Rattle.wsm_record.specs.declared.event.Value.TheVariants.{Int, Bool as Truth', Enum}
-use Rattle.wsm_record.specs.Schema.{FieldType, Int as Between, Truth, Enum as Names, DeclaredField, fits_type, fit_fields, is_i64, is_spelt_type, is_spelt_field}
+use Rattle.wsm_record.specs.Schema.{FieldType, DeclaredField, fits_type, fit_fields, is_i64, is_spelt_type, is_spelt_field}
 use Rattle.wsm_record.specs.Name.{is_name}
 use Rattle.wsm_program.specs.declared.instr.SectionId.{SectionId}
 use Rattle.wsm_program.specs.declared.instr.SectionId.TheVariants.{Where, Update}
@@ -31,7 +30,6 @@ use Rattle.wsm_query.specs.Tree.{Query, Expr}
 use Rattle.wsm_record.specs.declared.words.CellType.TheVariants as types
 use Rattle.wsm_check.specs.Aggregates.{Acc, accumulators, in_option}
 use Rattle.wsm_compiler.specs.Meaning.{Scene, meaning, meets_i64, on_record, is_true, condition_holds, selects}
-use Rattle.wsm_check.specs.Parts.{schema_of}
 use Rattle.wsm_compiler.specs.Program.{program_of}
 use Rattle.wsm_compiler.specs.Runs.{cell}
 use Rattle.wsm_compiler.specs.Sections.{in_bounds, condition_value, folded_values, on_stack, Traps, Leaves, Folds, record_fits}
@@ -45,8 +43,7 @@ use Rattle.wsm_compiler.proofs.UpdateRuns.{update_runs}
 -- ---- runs that end
 
 pub costs_of : (r : Result Costs Rejection) → is_ok r ≡ true → (c : Costs) × (r ≡ Ok c)
-costs_of (Ok c) h = (c, refl)
-costs_of (Err f) h = no h
+costs_of r h = grind arith
 
 pub lawful : (q : Query) → IsAccepted q → is_program (program_of q) ≡ true
 lawful q a = is_lawful q a.checked a.spelt
@@ -58,36 +55,29 @@ not_trapped : (o : Outcome) (t : Trap) → o ≡ Done → o ≡ Trapped t → �
 not_trapped o t e h = let tag : Outcome → Bool = λ x. elim x [ Done ↦ true | Trapped t ↦ false ] in no (ap tag (sym h ∙ e))
 
 no_traps : {X : Type 0} (r : Ran) → r.outcome ≡ Done → Traps r → X
-no_traps r e (inl h) = absurd (not_trapped r.outcome _ e h)
-no_traps r e (inr h) = absurd (not_trapped r.outcome _ e h)
+no_traps r e h3 = grind (arith, not_trapped)
 
 -- the stack that it leaves
 pub left : (r : Ran) (o : Option (List Cell)) → r.outcome ≡ Done → Leaves r o → o ≡ Some r.stack
-left r None e h = no_traps r e h
-left r (Some stack) e h = ap Some (sym h.1)
+left r o e h = grind (arith, no_traps)
 
 pub folded : (r : Ran) (o : Option (List Value)) → r.outcome ≡ Done → Folds r o → (vs : List Value) × (o ≡ Some vs) × (r.folds ≡ map Some vs)
-folded r None e h = no_traps r e h
-folded r (Some vs) e h = (vs, refl, h.2)
+folded r o e h = grind (arith, no_traps)
 
 -- ---- values
 
 pub in_bounds_is : (b : Bool) (o : Option Value) (v : Value) → cond b o None ≡ Some v → (o ≡ Some v) × (b ≡ true)
-in_bounds_is true o v h = (h, refl)
-in_bounds_is false o v h = none≢some h
+in_bounds_is b o v h = grind arith
 
 pub has_value : (q : Query) (s : Scene) (e : Expr) (v : Value) → in_bounds q s 0 e ≡ Some v → HasValue q s e
 has_value q s e v h = let p = in_bounds_is (meets_i64 q s 0 e) (meaning q s e) v h in record { value = v; is = p.0; in_i64 = p.1 }
 
 pub condition_has : (q : Query) (s : Scene) (o : Option Expr) (v : Value) → condition_value q s 0 o ≡ Some v → AllByRecursion (HasValue q s) (in_option o) × (condition_holds q s o ≡ is_true (Some v))
-condition_has q s None v h = (tt, ap is_true h)
-condition_has q s (Some e) v h = ((has_value q s e v h, tt), ap is_true (in_bounds_is (meets_i64 q s 0 e) (meaning q s e) v h).0)
+condition_has q s o v h = grind (arith, has_value, in_bounds_is)
 
 -- a value on top of the stack
 top_is : (v : Value) (rest : List Cell) → top_is_true (cell types.Bool v ∷ rest) ≡ is_true (Some v)
-top_is (Int n) rest = refl
-top_is (Truth' b) rest = refl
-top_is (Enum i) rest = refl
+top_is v rest = grind arith
 
 -- what a section says that ends with a truth on top
 pub says : (r : Ran) (v : Value) (rest : List Cell) → r.outcome ≡ Done → r.stack ≡ cell types.Bool v ∷ rest → program.says_true r ≡ is_true (Some v)
@@ -96,22 +86,13 @@ says r v rest e h = (λ i. is_done (e i) && top_is_true (h i)) ∙ top_is v rest
 -- ---- inputs
 
 of_type : (t : FieldType) (v : Value) → fits_type t v ≡ true → is_of_field t v ≡ true
-of_type (Between lo hi) (Int n) h = refl
-of_type (Between lo hi) (Truth' b) h = no h
-of_type (Between lo hi) (Enum i) h = no h
-of_type Truth (Int n) h = no h
-of_type Truth (Truth' b) h = refl
-of_type Truth (Enum i) h = no h
-of_type (Names names) (Int n) h = no h
-of_type (Names names) (Truth' b) h = no h
-of_type (Names names) (Enum i) h = h
+of_type t v h = grind arith
 
 of_fields : (fs : List DeclaredField) (vs : List Value) → fit_fields fs vs ≡ true → are_of_fields fs vs ≡ true
 of_fields [] [] h = refl
-of_fields [] (v ∷ vs) h = no h
-of_fields (f ∷ fs) [] h = no h
 of_fields (f ∷ fs) (v ∷ vs) h =
     let p = and_parts (fits_type f.type v) (fit_fields fs vs) h in and_from (is_of_field f.type v) (are_of_fields fs vs) (of_type f.type v p.0) (of_fields fs vs p.1)
+of_fields fs vs h = no h
 
 -- a number between two of 64 bits has 64 bits
 between : (lo hi n : ℤ) → is_i64 lo ≡ true → is_i64 hi ≡ true → (int_le lo n && int_le n hi) ≡ true → is_i64 n ≡ true
@@ -126,30 +107,23 @@ between lo hi n h l m =
     (λ i. le_true least n above i && le_true n most below i)
 
 word_of : (t : FieldType) (v : Value) → is_spelt_type t ≡ true → fits_type t v ≡ true → is_word v ≡ true
-word_of (Between lo hi) (Int n) h l = let p = and_parts (is_i64 lo) (is_i64 hi) h in between lo hi n p.0 p.1 l
-word_of Truth (Int n) h l = no l
-word_of (Names names) (Int n) h l = no l
-word_of t (Truth' b) h l = refl
-word_of t (Enum i) h l = refl
+word_of t v h l = grind (arith, between)
 
 words : (fs : List DeclaredField) (vs : List Value) → list_all is_spelt_field fs ≡ true → fit_fields fs vs ≡ true → list_all is_word vs ≡ true
 words [] [] h l = refl
-words [] (v ∷ vs) h l = no l
-words (f ∷ fs) [] h l = no l
 words (f ∷ fs) (v ∷ vs) h l =
     let p = and_parts (is_spelt_field f) (list_all is_spelt_field fs) h in
     let n = and_parts (is_name f.name) (is_spelt_type f.type) p.0 in
     let r = and_parts (fits_type f.type v) (fit_fields fs vs) l in
     and_from (is_word v) (list_all is_word vs) (word_of f.type v n.1 r.0) (words fs vs p.1 r.1)
+words fs vs h l = no l
 
 module _ (q : Query) (a : IsAccepted q) (key : ℕ) (values : List Value) (h : record_in_range q key values ≡ true) where
   abbrev d : Inputs
   d = record_inputs key values
 
   fit : record_fits q d ≡ true
-  fit =
-      let fields = (and_parts (nat_lt key (length q.keys)) (fit_fields (schema_of q).fields values) h).1 in
-      and_from (are_of_fields (schema_of q).fields values) (list_all is_word values) (of_fields (schema_of q).fields values fields) (words (schema_of q).fields values a.spelt.fields fields)
+  fit = grind (arith, of_fields, words)
 
   -- ---- WHERE
 

@@ -1,16 +1,15 @@
 -- FIRE of an accepted query ends on each pane in range, on what UPDATE's values of its records are folded to; so its row is what the
 -- query's columns and HAVING mean there.
-use Rattle.std.proofs.Common.{◌≡◌, ℕ, suc, ◌+◌, ◌≤◌, ◌<◌, true, ◌&&◌, cond, List, [], ◌∷◌, ◌++◌, length, map, reverse, Option, Some, None, refl, sym, ap, subst, ◌∙◌, arith, append_assoc, append-nil}
+use Rattle.std.proofs.Common.{◌≡◌, ℕ, suc, ◌+◌, ◌≤◌, ◌<◌, true, cond, List, [], ◌∷◌, ◌++◌, length, map, reverse, Option, Some, None, refl, sym, ap, ◌∙◌, arith, append_assoc, append-nil}
 use Rattle.std.proofs.lemmas.List.{reverse-append}
 use Rattle.std.specs.Option.{option_and_then}
-use Rattle.std.specs.Prelude.{pos, nat_lt, option_map}
+use Rattle.std.specs.Prelude.{nat_lt, option_map}
 use Rattle.std.specs.List.{AllByRecursion, list_all}
 use Rattle.std.proofs.lemmas.Bool.{and_from, ltb-true, and_parts}
 use Rattle.wsm_record.specs.declared.event.Value.{Value}
 use Rattle.wsm_record.specs.Schema.{fit_fields, is_i64}
-use Rattle.wsm_interval.specs.Interval.{interval, holds}
 use Rattle.wsm_fold.specs.Laws.{joined_to}
-use Rattle.wsm_fold.specs.Fold.{are_of_kinds, joins, folds_of}
+use Rattle.wsm_fold.specs.Fold.{joins, folds_of}
 use Rattle.wsm_program.specs.declared.instr.SectionId.TheVariants.{Fire}
 use Rattle.wsm_program.specs.Program.{Program}
 use Rattle.wsm_rules.specs.Rules.{judge}
@@ -18,7 +17,7 @@ use Rattle.wsm_semantics.specs.Query.{Datum}
 use Rattle.wsm_record.specs.declared.cell.Cell.{Cell}
 use Rattle.wsm_machine.specs.declared.run.Ran.{Ran}
 use Rattle.wsm_machine.specs.Inputs.{Inputs}
-use Rattle.wsm_machine.specs.InRange.{in_range, is_word, are_folded_in, accs_in}
+use Rattle.wsm_machine.specs.InRange.{in_range, is_word, are_folded_in}
 use Rattle.wsm_machine.specs.Sound.{AreFolds}
 use Rattle.wsm_machine.specs.Meaning as program
 use Rattle.wsm_machine.specs.Meaning.{pane_inputs, fire_run, updated, updated_all}
@@ -52,8 +51,7 @@ module _ (q : Query) (key : ℕ) (records : List (List Value)) where
   bounds_free a e = let f = free q key records a 0 e in (λ i. cond (list_all is_i64 (f.1 i)) (f.0 i) None)
 
   condition_free : (a : ℕ) (o : Option Expr) → condition_value q s a o ≡ condition_value q s 0 o
-  condition_free a None = refl
-  condition_free a (Some e) = bounds_free a e
+  condition_free a o = grind (arith, bounds_free)
 
   -- columns from one on have values, which are pushed, and then HAVING
   record Fired (es : List Expr) (stack out : List Cell) : Type 0 where
@@ -166,9 +164,7 @@ module _ (q : Query) (a : IsAccepted q) (key : ℕ) where
     ranged = let c = costs_of (judge p) a.accepted in may_fire p c.0 c.1 key (length records) held key_declared folds h.few
 
     fit : pane_fits q d ≡ true
-    fit =
-        let b = and_parts (nat_lt key (length q.keys)) (holds (interval (pos 1) q.clock.records) (pos (length records)) && accs_in p 0 p.header.kinds held) ranged in
-        subst (λ ks. are_of_kinds ks held ≡ true) (kinds_are q (accumulators q)) (accs_types p 0 p.header.kinds held (and_parts (holds (interval (pos 1) q.clock.records) (pos (length records))) (accs_in p 0 p.header.kinds held) b.1).1)
+    fit = grind (arith, held, ranged, kinds_are, accs_types)
 
     abbrev ran : Ran
     ran = fire_run p key (length records) held

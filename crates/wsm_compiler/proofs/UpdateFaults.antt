@@ -1,13 +1,9 @@
 -- UPDATE has a fault exactly where the range of an aggregate doesn't fit.
 use Rattle.std.proofs.Common.{◌≡◌, ℕ, zero, suc, ◌+◌, ◌≤◌, ◌<◌, Bool, true, false, ◌&&◌, ◌||◌, not, cond, List, [], ◌∷◌, ◌++◌, length, map, replicate, Option, Some, None, Ok, refl, sym, ap, subst, ◌∙◌, arith, append_assoc, length-append}
-use Rattle.std.specs.Prelude.{ℤ, ◌*ℤ◌, is_some, is_none, slice_index_or, slice_set}
+use Rattle.std.specs.Prelude.{ℤ, is_some, is_none, slice_index_or, slice_set}
 use Rattle.std.specs.List.{list_all}
-use Rattle.std.specs.Int.{int_min, int_max}
 use Rattle.std.proofs.lemmas.Option.{same_Some}
 use Rattle.wsm_record.specs.declared.words.Kind.{Kind}
-use Rattle.wsm_record.specs.declared.words.Kind.TheVariants.{Sum, Min, Max, Any, All}
-use Rattle.wsm_interval.specs.Interval.{interval}
-use Rattle.wsm_record.specs.Schema.{is_i64}
 use Rattle.wsm_program.specs.declared.instr.Instr.TheVariants.{Fold}
 use Rattle.wsm_program.specs.Instructions.{kind_of}
 use Rattle.wsm_program.specs.declared.SectionId.TheVariants.{Update}
@@ -21,10 +17,10 @@ use Rattle.wsm_rules.specs.declared.known.Known.{Known}
 use Rattle.wsm_rules.specs.Labels.{State}
 use Rattle.wsm_rules.specs.Rules.{Setting, setting, entry, known_fields, ranges_of_record, has_type, sum_leaves, fault_in}
 use Rattle.wsm_compiler.specs.Code.{code, size, need, folds, update_section}
-use Rattle.wsm_compiler.specs.Ranges.{Range, Unfit, NoNumber, Within, of_aggregate, range, fits}
+use Rattle.wsm_compiler.specs.Ranges.{Range, of_aggregate, range, fits}
 use Rattle.wsm_compiler.specs.Program.{program_stating}
 use Rattle.wsm_machine.proofs.FittingStacks.{no}
-use Rattle.wsm_compiler.proofs.Parts.{none≢some, Labelled, one}
+use Rattle.wsm_compiler.proofs.Parts.{Labelled, one}
 use Rattle.wsm_compiler.proofs.Tests.{tested, not_last, with_known}
 use Rattle.wsm_compiler.proofs.QueryTerms.{kinds_of, folds_size, folds_need}
 use Rattle.wsm_compiler.proofs.Sizes.{length-code, length-folds, some_code, some_folds, some_folds_size}
@@ -69,13 +65,10 @@ if_takes b s = cond b (Some s) None
 
 fold_verdict : (f l : Bool) (s : State) →
     (false || (false || (not f || (false || (false || (false || (l || (false || (false || (false || (false || false))))))))))) ≡ is_none (if_takes (f && not l) s)
-fold_verdict true true s = refl
-fold_verdict true false s = refl
-fold_verdict false l s = refl
+fold_verdict f l s = grind arith
 
 taken_is : (b : Bool) (s t : State) → if_takes b s ≡ Some t → Some s ≡ Some t
-taken_is true s t h = h
-taken_is false s t h = none≢some h
+taken_is b s t h = grind arith
 
 module _ (q : Query) (b : Costs) where
   abbrev pub updating : Setting
@@ -87,12 +80,7 @@ module _ (q : Query) (b : Costs) where
 
   pub fold_one : (e : State) (k a : ℕ) (x : Known) (s : State) (kind : Kind) → kind_of updating.kinds a ≡ kind → slice_index_or s.folded a false ≡ false → length s.stack < 32 → suc k < updating.n →
       Labelled e updating k (Fold a ∷ []) (with_known x s) (if_takes (takes q.clock.records kind x) (behind_fold a s))
-  fold_one e k a x s kind is once room more =
-      one e updating k (Fold a) (with_known x s) (if_takes (takes q.clock.records kind x) (behind_fold a s)) refl (λ p q s. refl)
-      (tested updating k (Fold a) (with_known x s) false false (not (has_type (kind_type kind) x)) false false false (sum_leaves q.clock.records kind x) false false false false
-      refl (has_one (length s.stack)) (ap (λ z. not (has_type (kind_type z) x)) is) once refl refl (ap (λ z. sum_leaves q.clock.records z x) is) (room_at_test (length s.stack) room) refl refl (not_last true k updating.n more)
-      ∙ fold_verdict (has_type (kind_type kind) x) (sum_leaves q.clock.records kind x) (behind_fold a s))
-      (λ t h. taken_is (takes q.clock.records kind x) (behind_fold a s) t h)
+  fold_one e k a x s kind is once room more = grind (arith, one, with_known, tested, has_one, room_at_test, not_last, fold_verdict, taken_is)
 
   -- ---- all of them
 
@@ -114,25 +102,7 @@ module _ (q : Query) (b : Costs) where
   -- a fault in the operand, in its fold, or behind it
   fold_fits : (kind : Kind) (r : Range) (s : State) (w : Bool) → suits (kind_type kind) r ≡ true →
       or_behind (known_of (kind_type kind) r) (λ x. or_behind (if_takes (takes q.clock.records kind x) s) (λ t. not w)) ≡ not (fits (of_aggregate q.clock.records kind r) && w)
-  fold_fits Sum Unfit s w h = refl
-  fold_fits Sum NoNumber s w h = no h
-  fold_fits Sum (Within x) s w h =
-      elim (is_i64 (q.clock.records *ℤ x.lo) && is_i64 (q.clock.records *ℤ x.hi)) as (λ a. or_behind (if_takes (true && not (not a)) s) (λ t. not w) ≡ not (fits (cond a (Within (interval (int_min x.lo (q.clock.records *ℤ x.lo)) (int_max x.hi (q.clock.records *ℤ x.hi)))) Unfit) && w)) [
-        | true ↦ refl
-        | false ↦ refl
-      ]
-  fold_fits Min Unfit s w h = refl
-  fold_fits Min NoNumber s w h = no h
-  fold_fits Min (Within x) s w h = refl
-  fold_fits Max Unfit s w h = refl
-  fold_fits Max NoNumber s w h = no h
-  fold_fits Max (Within x) s w h = refl
-  fold_fits Any Unfit s w h = refl
-  fold_fits Any NoNumber s w h = refl
-  fold_fits Any (Within x) s w h = no h
-  fold_fits All Unfit s w h = refl
-  fold_fits All NoNumber s w h = refl
-  fold_fits All (Within x) s w h = no h
+  fold_fits kind r s w h = grind (arith, or_behind)
 
   pub no_accs : (a : ℕ) (accs : List Acc) → AccsIn updating q InAggregate a accs
   no_accs a accs h = no (ap in_column h)

@@ -1,13 +1,12 @@
 -- A run of UPDATE folds the meaning of each aggregate's operand, or traps where one has none.
-use Rattle.std.proofs.Common.{◌≡◌, inl, inr, ℕ, suc, ◌+◌, ◌≤◌, true, false, not, cond, List, [], ◌∷◌, ◌++◌, length, map, replicate, Option, Some, None, refl, sym, ap, subst, ◌∙◌, arith, append_assoc, length-append, append-nil}
+use Rattle.std.proofs.Common.{◌≡◌, ℕ, suc, ◌+◌, ◌≤◌, true, false, not, cond, List, [], ◌∷◌, ◌++◌, length, map, replicate, Option, Some, None, refl, sym, ap, subst, ◌∙◌, arith, append_assoc, length-append, append-nil}
 use Rattle.std.specs.Prelude.{is_some, slice_get, slice_set}
 use Rattle.std.specs.List.{list_all}
 use Rattle.std.proofs.lemmas.List.{length-map, map-append}
 use Rattle.std.proofs.lemmas.Option.{get_or_from_slice_get}
 use Rattle.wsm_record.specs.declared.event.Value.{Value}
-use Rattle.wsm_record.specs.declared.event.Value.TheVariants.{Int, Bool as Truth', Enum}
 use Rattle.wsm_record.specs.declared.words.Kind.{Kind}
-use Rattle.wsm_record.specs.declared.words.Kind.TheVariants.{Sum, Min, Max, Any, All}
+use Rattle.wsm_record.specs.declared.words.Kind.TheVariants.{Sum}
 use Rattle.wsm_program.specs.declared.instr.Instr.TheVariants as instr
 use Rattle.wsm_program.specs.declared.instr.SectionId.TheVariants.{Update}
 use Rattle.wsm_program.specs.Instructions.{acc_type}
@@ -63,32 +62,14 @@ kind_at q [] accs acc = refl
 kind_at q (x ∷ before) accs acc = kind_at q before accs acc
 
 folds_type : (kind : Kind) (v : Value) → of_ty (kind_type kind) (Some v) ≡ true → is_type (kind_type kind) (type_of (cell (kind_type kind) v)) ≡ true
-folds_type Sum (Int n) h = refl
-folds_type Sum (Truth' b) h = no h
-folds_type Sum (Enum i) h = no h
-folds_type Min (Int n) h = refl
-folds_type Min (Truth' b) h = no h
-folds_type Min (Enum i) h = no h
-folds_type Max (Int n) h = refl
-folds_type Max (Truth' b) h = no h
-folds_type Max (Enum i) h = no h
-folds_type Any (Int n) h = no h
-folds_type Any (Truth' b) h = refl
-folds_type Any (Enum i) h = no h
-folds_type All (Int n) h = no h
-folds_type All (Truth' b) h = refl
-folds_type All (Enum i) h = no h
+folds_type kind v h = grind arith
 
 pub value_is : (t : CellType) (v : Value) → value_of (cell t v) ≡ v
-value_is t (Int n) = refl
-value_is t (Truth' b) = refl
-value_is t (Enum i) = refl
+value_is t v = grind arith
 
 -- a run that goes on as one that folds
 folds_on : (r p : Ran) (o : Option (List Value)) → r.outcome ≡ p.outcome → r.stack ≡ p.stack → r.folds ≡ p.folds → Folds p o → Folds r o
-folds_on r p None e l m (inl h) = inl (e ∙ h)
-folds_on r p None e l m (inr h) = inr (e ∙ h)
-folds_on r p (Some vs) e l m h = (e ∙ h.0, l ∙ h.1, m ∙ h.2)
+folds_on r p o e l m h7 = grind arith
 
 pub folds_behind : (c : Setting) (s t : State) (o : Option (List Value)) → Gives c s (Some t) → Folds (run_at c t) o → Folds (run_at c s) o
 folds_behind c s t o g h = folds_on (run_at c s) (run_at c t) o (ap (λ (r : Ran). r.outcome) g.1) (ap (λ (r : Ran). r.stack) g.1) (ap (λ (r : Ran). r.folds) g.1) h
@@ -101,12 +82,10 @@ abbrev one_more : Value → Option (List Value) → Option (List Value)
 one_more v o = elim o [ None ↦ None | Some xs ↦ Some (v ∷ xs) ]
 
 front_moved : (vs : List Value) (v : Value) (o : Option (List Value)) → with_front (vs ++ v ∷ []) o ≡ with_front vs (one_more v o)
-front_moved vs v None = refl
-front_moved vs v (Some ws) = ap Some (append_assoc vs (v ∷ []) ws)
+front_moved vs v o = grind (arith, append_assoc)
 
 with_none : (o : Option (List Value)) → with_front [] o ≡ o
-with_none None = refl
-with_none (Some vs) = refl
+with_none o = grind arith
 
 module _ (q : Query) (b : Costs) (d : Inputs) (fit : record_fits q d ≡ true) where
   abbrev c : Setting

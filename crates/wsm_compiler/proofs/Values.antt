@@ -1,13 +1,11 @@
 -- What an expression of a type means, as code computes it, is a value of that type.
 use Rattle.std.proofs.Common.{◌≡◌, ℕ, ◌+◌, Bool, true, false, ◌&&◌, cond, List, ◌++◌, Option, Some, None, Ok, refl, sym, ap, subst, ◌∙◌, arith}
-use Rattle.std.specs.Prelude.{ℤ, pos, slice_get, int_div, int_rem}
-use Rattle.std.specs.Ordering.{int_eq}
+use Rattle.std.specs.Prelude.{ℤ, slice_get}
 use Rattle.wsm_record.specs.declared.event.Value.{Value}
-use Rattle.wsm_record.specs.declared.event.Value.TheVariants.{Int, Bool as Truth', Enum}
+use Rattle.wsm_record.specs.declared.event.Value.TheVariants.{Int, Bool as Truth'}
 use Rattle.wsm_record.specs.Name.{is_among}
 use Rattle.wsm_record.specs.Schema.{is_i64}
 use Rattle.wsm_query.specs.declared.expr.Op.{Op}
-use Rattle.wsm_query.specs.declared.expr.Op.TheVariants.{Add, Sub, Mul, Div, Rem, Eq, Ne, Lt, Le, Gt, Ge}
 use Rattle.wsm_query.specs.Tree.{Query, Expr, Number, Truth, Field, EnumName, Key, KeyName, Count, Aggregate, If, Brackets, Minus, Not, Binary, And, Or}
 use Rattle.wsm_check.specs.Names.{field_names, field_place, type_of, names_of}
 use Rattle.wsm_record.specs.declared.words.CellType.{CellType}
@@ -21,7 +19,6 @@ use Rattle.wsm_machine.specs.Step.{Setting}
 use Rattle.wsm_compiler.specs.Meaning.{Scene, on_numbers, on_same, on_two, both, minus, negated, chosen}
 use Rattle.wsm_compiler.specs.Bounded.{kept, bounded_from}
 use Rattle.wsm_compiler.specs.Runs.{of_ty, Serves, ServesAccs}
-use Rattle.wsm_machine.proofs.FittingStacks.{no}
 use Rattle.wsm_compiler.proofs.FoundRanges.{ok_is, op_typed, result_of}
 use Rattle.wsm_compiler.proofs.ExpressionRanges.{cond_ok, entered_is, op_is, two_types, if_types, logic_types, unary_is, get_left, get_right}
 use Rattle.wsm_check.proofs.PassedChecks.{length-accumulators_of}
@@ -45,86 +42,35 @@ serves_right c around s a x ys h e j acc get =
 -- ---- operators
 
 if_kept : (n : ℤ) (b : Bool) → of_ty types.Int (cond b (Some (Int n)) None) ≡ true
-if_kept n true = refl
-if_kept n false = refl
+if_kept n b = grind arith
 
 kept_has : (t : CellType) (o : Option Value) → of_ty t o ≡ true → of_ty t (kept o) ≡ true
-kept_has t None h = refl
-kept_has types.Int (Some (Int n)) h = if_kept n (is_i64 n)
-kept_has types.Bool (Some (Int n)) h = no h
-kept_has (types.Enum e) (Some (Int n)) h = no h
-kept_has t (Some (Truth' b)) h = h
-kept_has t (Some (Enum i)) h = h
+kept_has t o h = grind (arith, if_kept)
 
 unless_zero : (b : Bool) (n : ℤ) → of_ty types.Int (cond b None (Some (Int n))) ≡ true
-unless_zero true n = refl
-unless_zero false n = refl
+unless_zero b n = grind arith
 
 numbers_have : (op : Op) (x y : ℤ) → of_ty (result_of op) (on_numbers op x y) ≡ true
-numbers_have Add x y = refl
-numbers_have Sub x y = refl
-numbers_have Mul x y = refl
-numbers_have Div x y = unless_zero (int_eq y (pos 0)) (int_div x y)
-numbers_have Rem x y = unless_zero (int_eq y (pos 0)) (int_rem x y)
-numbers_have Eq x y = refl
-numbers_have Ne x y = refl
-numbers_have Lt x y = refl
-numbers_have Le x y = refl
-numbers_have Gt x y = refl
-numbers_have Ge x y = refl
+numbers_have op x y = grind (arith, unless_zero)
 
 -- an operator on values that are no numbers
 not_numbers : (op : Op) (t u : CellType) (b : Bool) → is_type t types.Int ≡ false → op_typed op t u ≡ true → of_ty (result_of op) (on_same op b) ≡ true
-not_numbers Eq t u b n h = refl
-not_numbers Ne t u b n h = refl
-not_numbers Add t u b n h = no (sym (ap (λ x. x && is_type u types.Int) n) ∙ h)
-not_numbers Sub t u b n h = no (sym (ap (λ x. x && is_type u types.Int) n) ∙ h)
-not_numbers Mul t u b n h = no (sym (ap (λ x. x && is_type u types.Int) n) ∙ h)
-not_numbers Div t u b n h = no (sym (ap (λ x. x && is_type u types.Int) n) ∙ h)
-not_numbers Rem t u b n h = no (sym (ap (λ x. x && is_type u types.Int) n) ∙ h)
-not_numbers Lt t u b n h = no (sym (ap (λ x. x && is_type u types.Int) n) ∙ h)
-not_numbers Le t u b n h = no (sym (ap (λ x. x && is_type u types.Int) n) ∙ h)
-not_numbers Gt t u b n h = no (sym (ap (λ x. x && is_type u types.Int) n) ∙ h)
-not_numbers Ge t u b n h = no (sym (ap (λ x. x && is_type u types.Int) n) ∙ h)
+not_numbers op t u b n h = grind arith
 
 two_have : (op : Op) (t u : CellType) (v w : Value) → op_typed op t u ≡ true → of_ty t (Some v) ≡ true → of_ty u (Some w) ≡ true → of_ty (result_of op) (on_two op v w) ≡ true
-two_have op t u (Int x) (Int y) h l m = numbers_have op x y
-two_have op types.Int u (Truth' a) (Truth' b) h l m = no l
-two_have op types.Bool u (Truth' a) (Truth' b) h l m = not_numbers op types.Bool u _ refl h
-two_have op (types.Enum e) u (Truth' a) (Truth' b) h l m = no l
-two_have op types.Int u (Enum i) (Enum j) h l m = no l
-two_have op types.Bool u (Enum i) (Enum j) h l m = no l
-two_have op (types.Enum e) u (Enum i) (Enum j) h l m = not_numbers op (types.Enum e) u _ refl h
-two_have op t u (Int x) (Truth' b) h l m = refl
-two_have op t u (Int x) (Enum j) h l m = refl
-two_have op t u (Truth' a) (Int y) h l m = refl
-two_have op t u (Truth' a) (Enum j) h l m = refl
-two_have op t u (Enum i) (Int y) h l m = refl
-two_have op t u (Enum i) (Truth' b) h l m = refl
+two_have op t u v w h l m = grind (arith, numbers_have, not_numbers)
 
 both_have : (op : Op) (t u : CellType) (o p : Option Value) → op_typed op t u ≡ true → of_ty t o ≡ true → of_ty u p ≡ true → of_ty (result_of op) (kept (both (on_two op) o p)) ≡ true
-both_have op t u None p h l m = refl
-both_have op t u (Some v) None h l m = refl
-both_have op t u (Some v) (Some w) h l m = kept_has (result_of op) (on_two op v w) (two_have op t u v w h l m)
+both_have op t u o p h l m = grind (arith, kept_has, result_of, two_have)
 
 minus_has : (o : Option Value) → of_ty types.Int o ≡ true → of_ty types.Int (kept (minus o)) ≡ true
-minus_has None h = refl
-minus_has (Some (Int n)) h = kept_has types.Int (minus (Some (Int n))) refl
-minus_has (Some (Truth' b)) h = refl
-minus_has (Some (Enum i)) h = refl
+minus_has o h = grind (arith, kept_has)
 
 negated_has : (o : Option Value) → of_ty types.Bool (negated o) ≡ true
-negated_has None = refl
-negated_has (Some (Int n)) = refl
-negated_has (Some (Truth' b)) = refl
-negated_has (Some (Enum i)) = refl
+negated_has o = grind arith
 
 chosen_has : (t : CellType) (o x y : Option Value) → of_ty t x ≡ true → of_ty t y ≡ true → of_ty t (chosen o x y) ≡ true
-chosen_has t None x y h l = refl
-chosen_has t (Some (Int n)) x y h l = refl
-chosen_has t (Some (Truth' true)) x y h l = h
-chosen_has t (Some (Truth' false)) x y h l = l
-chosen_has t (Some (Enum i)) x y h l = refl
+chosen_has t o x y h l = grind arith
 
 at_type : (o : Option Value) (u t : CellType) → u ≡ t → of_ty u o ≡ true → of_ty t o ≡ true
 at_type o u t e h = subst (λ x. of_ty x o ≡ true) e h

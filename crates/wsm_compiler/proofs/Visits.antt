@@ -1,8 +1,9 @@
 -- The visits of a section's places, a part of the section at a time.
-use Rattle.std.proofs.Common.{◌≡◌, ℕ, ◌+◌, ◌<◌, Bool, true, false, ◌||◌, List, [], ◌∷◌, ◌++◌, length, reverse, Option, Some, None, refl, sym, ap, ◌∙◌, arith, append_assoc, length-append, append-nil}
+use Rattle.std.proofs.Common.{◌≡◌, ℕ, ◌+◌, ◌<◌, Bool, ◌||◌, List, [], ◌∷◌, ◌++◌, length, reverse, Option, refl, sym, ap, ◌∙◌, arith, append_assoc, length-append, append-nil}
 use Rattle.std.proofs.lemmas.List.{reverse-append}
 use Rattle.std.specs.Prelude.{is_some}
-use Rattle.std.specs.List.{cons_option, filter_map}
+use Rattle.std.proofs.lemmas.List.Elements.{filter_map-append}
+use Rattle.std.specs.List.{filter_map}
 use Rattle.wsm_program.specs.declared.Instr.{Instr}
 use Rattle.wsm_rules.specs.declared.rejection.Rejection.{Rejection}
 use Rattle.wsm_rules.specs.Labels.{State, Ranges, Visit, carried_to, gathered, label_of, visit_of, visited_next, visits_back, visits}
@@ -41,10 +42,7 @@ length-added e r vs (i ∷ is) =
     omega (arith, h, l)
 
 pub length-extended : (e : State) (r : Ranges) (vs : List Visit) (is : List Instr) → length (extended e r vs is) ≡ length vs + length is
-length-extended e r vs is =
-    let h = length-added e r vs is in
-    let l = ap length (extended_is e r vs is) ∙ length-append (added e r vs is) vs in
-    omega (arith, h, l)
+length-extended e r vs is = grind (arith, length-added, extended_is, length-append)
 
 visits_after : (e : State) (r : Ranges) (before is : List Instr) → visits_back e r (reverse is ++ before) ≡ extended e r (visits_back e r before) is
 visits_after e r before [] = refl
@@ -62,17 +60,11 @@ abbrev pub carries : ℕ → List Visit → List State
 carries q vs = filter_map (carried_to q) vs
 
 pub carries_append : (q : ℕ) (vs ws : List Visit) → carries q (vs ++ ws) ≡ carries q vs ++ carries q ws
-carries_append q [] ws = refl
-carries_append q (v ∷ vs) ws =
-    elim (carried_to q v) as (λ o. cons_option o (carries q (vs ++ ws)) ≡ cons_option o (carries q vs) ++ carries q ws) [
-      | None ↦ carries_append q vs ws
-      | Some s ↦ ap (λ zs. s ∷ zs) (carries_append q vs ws)
-    ]
+carries_append q vs ws = filter_map-append (carried_to q) vs ws
 
 -- behind the first place a label is what edges carry there
 pub label_gathered : (e : State) (q : ℕ) (vs : List Visit) → 0 < length vs → label_of e q vs ≡ gathered q vs
-label_gathered e q [] h = absurd (omega (arith, h))
-label_gathered e q (v ∷ vs) h = refl
+label_gathered e q vs h = grind arith
 
 -- ---- whether one of the places has a fault
 
@@ -80,15 +72,10 @@ abbrev pub faults : Setting → List Visit → Bool
 faults c vs = is_some (first_fault c vs)
 
 pub some_or : (a b : Option Rejection) → is_some (or_then a b) ≡ (is_some a || is_some b)
-some_or None b = refl
-some_or (Some r) b = refl
+some_or a b = grind arith
 
 swapped : (a b d : Bool) → ((a || b) || d) ≡ ((a || d) || b)
-swapped true b d = refl
-swapped false true true = refl
-swapped false true false = refl
-swapped false false true = refl
-swapped false false false = refl
+swapped a b d = grind arith
 
 pub faults_append : (c : Setting) (vs ws : List Visit) → faults c (vs ++ ws) ≡ (faults c vs || faults c ws)
 faults_append c [] ws = refl
@@ -97,7 +84,3 @@ faults_append c (v ∷ vs) ws =
     ∙ ap (λ b. b || is_some (fault_at c v)) (faults_append c vs ws)
     ∙ swapped (faults c vs) (faults c ws) (is_some (fault_at c v))
     ∙ ap (λ b. b || faults c ws) (sym (some_or (first_fault c vs) (fault_at c v)))
-
-pub or_true : (b : Bool) → (b || true) ≡ true
-or_true true = refl
-or_true false = refl

@@ -35,9 +35,9 @@ longest_firing having (t ∷ ts) = longest t + longest_firing having ts
 
 abbrev pub needed_by_structure : Parts → Costs
 needed_by_structure p = record {
-  per_record = longest_ending p.condition + windows_of_a_record p.shape * longest_foldings p.foldings + join_steps p.shape (length p.foldings);
+  per_record = longest_ending p.condition + windows_of_a_record p.output.shape * longest_foldings p.foldings + join_steps p.output.shape (length p.foldings);
   per_pane = longest_firing p.having p.columns;
-  held = length p.schema.keys * live_bound p.shape p.clock.skew p.clock.lateness;
+  held = length p.schema.keys * live_bound p.output.shape p.clock.skew p.clock.lateness;
 }
 
 -- what a program needs is found by the structure of its query

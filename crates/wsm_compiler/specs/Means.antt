@@ -10,11 +10,11 @@ abbrev pub meant : Query → Meant
 meant q = record {
   clock = q.clock;
   declared = schema_of q;
-  shape = q.shape;
-  mode = q.mode;
-  early = unsigned_abs (every q.early);
-  late = unsigned_abs (every q.late);
-  form = q.form;
+  shape = q.output.shape;
+  mode = q.output.mode;
+  early = unsigned_abs (every q.output.early);
+  late = unsigned_abs (every q.output.late);
+  form = q.output.form;
   selects = selects q;
   row = λ key records. row q key (map (λ d. d.values) records);
 }

@@ -3,7 +3,8 @@ use Rattle.std.specs.Prelude.{map, ℤ, pos, unsigned_abs, Option, Some, None}
 use Rattle.wsm_program.specs.declared.program.Costs.{Costs}
 use Rattle.wsm_program.specs.Program.{Header, Program}
 use Rattle.wsm_rules.specs.Costs.{needed}
-use Rattle.wsm_query.specs.Tree.{Query, Budget}
+use Rattle.wsm_query.specs.declared.query.Budget.{Budget}
+use Rattle.wsm_query.specs.Tree.{Query}
 use Rattle.wsm_check.specs.Parts.{Parts, parts_of}
 use Rattle.wsm_compiler.specs.TermCode.{ending_code, foldings_code, firing_code}
 
@@ -16,11 +17,11 @@ abbrev pub header_stating : Parts → Costs → Header
 header_stating p stated = record {
   schema = p.schema;
   clock = p.clock;
-  shape = p.shape;
-  mode = p.mode;
-  early = every p.early;
-  late = every p.late;
-  form = p.form;
+  shape = p.output.shape;
+  mode = p.output.mode;
+  early = every p.output.early;
+  late = every p.output.late;
+  form = p.output.form;
   kinds = map (λ f. f.kind) p.foldings;
   columns = p.types;
   budget = stated;

@@ -47,11 +47,7 @@ base = record {
   columns = Count ∷ Aggregate Sum n ∷ [];
   condition = None;
   having = None;
-  shape = Fixed (pos 60);
-  mode = Accumulating;
-  early = None;
-  late = None;
-  form = Panes;
+  output = record { shape = Fixed (pos 60); mode = Accumulating; early = None; late = None; form = Panes };
 }
 
 -- ---- programs and what they come to
@@ -70,7 +66,7 @@ base_clock = refl
 
 -- `SOURCES x, y; .. LATENESS 10 FROM WINDOW; .. FIXED 60 RETRACTING`
 abbrev of_two_sources : Query
-of_two_sources = record base { sources = codes "x" ∷ codes "y" ∷ []; clock = record base.clock { from_window = true }; mode = Retracting }
+of_two_sources = record base { sources = codes "x" ∷ codes "y" ∷ []; clock = record base.clock { from_window = true }; output = record base.output { mode = Retracting } }
 
 two_sources_clock : (program_of of_two_sources).header.clock ≡ record { start = pos 0; skew = pos 100; lateness = pos 10; from_window = true; records = pos 1000 }
 two_sources_clock = refl
@@ -107,7 +103,7 @@ past_a_word_unlawful = refl
 base_accepted : judge (program_of base) ≡ costs 5 4 6
 base_accepted = refl
 
-sliding : judge (program_of (record base { shape = Sliding (pos 60) (pos 25) })) ≡ costs 11 4 14
+sliding : judge (program_of (record base { output = record base.output { shape = Sliding (pos 60) (pos 25) } })) ≡ costs 11 4 14
 sliding = refl
 
 average : judge (program_of (record base { columns = Binary Div (Aggregate Sum n) Count ∷ [] })) ≡ costs 5 5 6

@@ -2,7 +2,6 @@
 
 ghost use Rattle.std.specs.Prelude.{◌≡◌, IfOk, IsTrue};
 ghost use Rattle.wsm_query.specs.Tree.{Query};
-ghost use Rattle.wsm_query.specs.Seen.{seen_budget};
 ghost use Rattle.wsm_check.specs.Parts.{parts_of};
 ghost use Rattle.wsm_check.specs.Seen.{seen_parts};
 ghost use Rattle.wsm_program.specs.Program.{is_budget};
@@ -48,7 +47,7 @@ fn program_with_need(alloc: Global, checked: Checked) -> Result<Program, AllocEr
 
 // What a BUDGET clause states.
 fn stated(clause: Budget) -> Costs
-    ensures { (need : Costs) → result ≡ spec.stated need (Some (seen_budget clause)) }
+    ensures { (need : Costs) → result ≡ spec.stated need (Some clause) }
 {
     Costs {
         per_record: clause.per_record.unsigned_abs(),

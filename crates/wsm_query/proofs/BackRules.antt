@@ -1,15 +1,14 @@
 -- The keys and the fields of a query are read again from their tokens.
-use Rattle.std.proofs.Common.{◌≡◌, ℕ, zero, suc, Bool, true, false, List, [], ◌∷◌, ◌++◌, ℤ, pos, negsuc, neg_ℤ, refl, sym, ap, ◌∙◌}
+use Rattle.std.proofs.Common.{◌≡◌, ℕ, Bool, true, false, List, [], ◌∷◌, ◌++◌, ℤ, neg_ℤ, refl, sym, ap, ◌∙◌, arith}
 use Rattle.std.specs.Prelude.{codes, bytes_eq}
 use Rattle.std.specs.List.{flat_map}
 use Rattle.std.specs.Cmp.Derive.{both_true}
-use Rattle.std.proofs.lemmas.Bool.{and_parts}
 use Rattle.wsm_record.specs.Name.{is_name}
 use Rattle.wsm_tokens.specs.declared.fault.Fault.TheVariants.{Unexpected}
 use Rattle.wsm_tokens.specs.declared.fault.TextFault.{TextFault}
 use Rattle.wsm_tokens.specs.declared.token.Sign.{Sign}
 use Rattle.wsm_tokens.specs.declared.token.Sign.TheVariants as signs
-use Rattle.wsm_tokens.specs.Tokens.{Token, Word, Mark, Number as Figure, Tokens, Then, End, Bad, sign_text}
+use Rattle.wsm_tokens.specs.Tokens.{Token, Word, Mark, Tokens, Then, sign_text}
 use Rattle.wsm_tokens.specs.Proper.{is_proper, are_proper, has_proper}
 use Rattle.wsm_tokens.specs.Read.{Read, Rule, Took, Stopped, ◌>>=◌, give, and_then, unexpected, begins, behind, spelling, ask, number, name}
 use Rattle.wsm_tokens.specs.Written.{put}
@@ -18,7 +17,7 @@ use Rattle.wsm_record.specs.Schema as field_types
 use Rattle.wsm_query.specs.Tree.{Name}
 use Rattle.wsm_query.specs.Grammar.{after, until, clause, either, brace, list_of, int, names, type_of, field}
 use Rattle.wsm_query.specs.Print.{figures, name_tokens, ty_tokens, clause_tokens}
-use Rattle.wsm_query.proofs.Spelt.{Proper, put_append, Says, word_says, sign_says, differ, begun}
+use Rattle.wsm_query.proofs.Spelt.{Proper, put_append, Says, word_says, sign_says, begun}
 use Rattle.wsm_query.proofs.SpeltClauses.{commas}
 use Rattle.wsm_query.proofs.Back.{Again, Back, Backs, ReadsBack, Carries, more_proper, carried, carry, carry_end, carry_last, alike, carries_behind, asked_again, ask_back, AllAgain, AllBack, brace_back, brace_again}
 
@@ -36,24 +35,17 @@ name_case w rest f p q false e = tt
 
 name_backs : (ts : Tokens) → Proper ts → Backs name word_token (name ts)
 unfolding name has_proper
-name_backs (Then (Word w) at rest) p = let q = and_parts (is_proper (Word w)) (has_proper rest) p in name_case w rest _ q.0 q.1 (is_name w) refl
-name_backs (Then (Figure n) at rest) p = tt
-name_backs (Then (Mark s) at rest) p = tt
-name_backs (End at) p = tt
-name_backs (Bad f at) p = tt
+name_backs ts p = grind arith
 
 name_back : ReadsBack name word_token
 name_back = record { law = name_backs }
 
 int_again : (n : ℤ) → Again int figures n
 unfolding int number begins behind
-int_again (pos n) k = refl
-int_again (negsuc n) k = refl
+int_again n k = grind arith
 
 neg_proper : (n : ℤ) → are_proper (figures n) ≡ true → are_proper (figures (neg_ℤ n)) ≡ true
-neg_proper (pos zero) p = p
-neg_proper (pos (suc n)) p = p
-neg_proper (negsuc n) p = p
+neg_proper n p = grind arith
 
 abbrev Sound : Read ℤ → Type 0
 Sound (Took n rest) = (are_proper (figures n) ≡ true) × Proper rest
@@ -61,12 +53,7 @@ Sound (Stopped f) = Unit {0}
 
 number_sound : (ts : Tokens) → Proper ts → Sound (number ts)
 unfolding number has_proper
-number_sound (Then (Figure (pos n)) at rest) p = let q = and_parts (is_proper (Figure (pos n))) (has_proper rest) p in (both_true q.0 refl, q.1)
-number_sound (Then (Figure (negsuc n)) at rest) p = differ false p refl
-number_sound (Then (Word w) at rest) p = tt
-number_sound (Then (Mark s) at rest) p = tt
-number_sound (End at) p = tt
-number_sound (Bad f at) p = tt
+number_sound ts p = grind arith
 
 plain_int : (read : Read ℤ) → Sound read → Backs int figures read
 plain_int (Took n rest) s = record { again = int_again n; proper = s.0; rest_proper = s.1 }
@@ -177,13 +164,11 @@ abbrev enum_rest : Rule FieldType
 enum_rest = until (codes ")") (names >>= λ xs. give (field_types.Enum xs))
 
 made_of : (xs : List Name) (read : Read (Unit {0})) → and_then read (λ _. give (field_types.Enum xs)) ≡ and_then (and_then read (λ _. give xs)) (λ ys. give (field_types.Enum ys))
-made_of xs (Took u rest) = refl
-made_of xs (Stopped f) = refl
+made_of xs read = grind arith
 
 made : (read : Read (List Name)) → and_then (and_then read (λ xs. give (field_types.Enum xs))) (λ t. ask (codes ")") >>= λ _. give t)
     ≡ and_then (and_then read (λ xs. ask (codes ")") >>= λ _. give xs)) (λ xs. give (field_types.Enum xs))
-made (Took xs rest) = made_of xs (ask (codes ")") rest)
-made (Stopped f) = refl
+made read = grind arith
 
 enum_carries : Carries type_of (Word (codes "ENUM") ∷ []) (after (codes "(") enum_rest) ty_tokens
 enum_carries =

@@ -1,12 +1,11 @@
 -- A rule looks at no place of a token: it reads the same of tokens whose places are all 0.
-use Rattle.std.proofs.Common.{◌≡◌, ℕ, zero, suc, Bool, true, false, List, [], ◌∷◌, refl, sym, ap, ap₂, subst, ◌∙◌}
+use Rattle.std.proofs.Common.{◌≡◌, ℕ, zero, suc, Bool, true, false, List, [], ◌∷◌, refl, sym, ap, ap₂, subst, ◌∙◌, arith}
 use Rattle.std.specs.Prelude.{Option, Some, None}
 use Rattle.wsm_tokens.specs.declared.fault.TextFault.{TextFault}
 use Rattle.wsm_tokens.specs.Tokens.{Tokens, Then, End, Bad, Word, Mark, Number}
 use Rattle.wsm_tokens.specs.Read.{Read, Rule, Took, Stopped, ◌>>=◌, give, and_then, unexpected, too_deep, begins, begins_number, behind, count, ask, number, name, is_end, ended}
 use Rattle.wsm_tokens.specs.Written.{bare}
 use Rattle.wsm_query.specs.Grammar.{looked_up, one_of, either, after, until, optional, turns, brace, list_of, Deeper, opened, at}
-use Rattle.wsm_record.specs.Name.{is_name}
 
 abbrev pub bare_fault : TextFault → TextFault
 bare_fault f = record f { offset = 0 }
@@ -20,45 +19,32 @@ pub record Blind {A : Type 0} (rule : Rule A) : Type 0 where
 
 unexpected_bare : (ts : Tokens) → unexpected (bare ts) ≡ bare_fault (unexpected ts)
 unfolding unexpected bare
-unexpected_bare (Then t at rest) = refl
-unexpected_bare (End at) = refl
-unexpected_bare (Bad f at) = refl
+unexpected_bare ts = grind arith
 
 too_deep_bare : (ts : Tokens) → too_deep (bare ts) ≡ bare_fault (too_deep ts)
 unfolding too_deep bare
-too_deep_bare (Then t at rest) = refl
-too_deep_bare (End at) = refl
-too_deep_bare (Bad f at) = refl
+too_deep_bare ts = grind arith
 
 pub begins_bare : (s : List ℕ) (ts : Tokens) → begins s (bare ts) ≡ begins s ts
 unfolding begins bare
-begins_bare s (Then t at rest) = refl
-begins_bare s (End at) = refl
-begins_bare s (Bad f at) = refl
+begins_bare s ts = grind arith
 
 begins_number_bare : (ts : Tokens) → begins_number (bare ts) ≡ begins_number ts
 unfolding begins_number bare
-begins_number_bare (Then t at rest) = refl
-begins_number_bare (End at) = refl
-begins_number_bare (Bad f at) = refl
+begins_number_bare ts = grind arith
 
 is_end_bare : (ts : Tokens) → is_end (bare ts) ≡ is_end ts
 unfolding is_end bare
-is_end_bare (Then t at rest) = refl
-is_end_bare (End at) = refl
-is_end_bare (Bad f at) = refl
+is_end_bare ts = grind arith
 
 behind_bare : (ts : Tokens) → behind (bare ts) ≡ bare (behind ts)
 unfolding behind bare
-behind_bare (Then t at rest) = refl
-behind_bare (End at) = refl
-behind_bare (Bad f at) = refl
+behind_bare ts = grind arith
 
 count_bare : (ts : Tokens) → count (bare ts) ≡ count ts
 unfolding count bare
 count_bare (Then t at rest) = ap suc (count_bare rest)
-count_bare (End at) = refl
-count_bare (Bad f at) = refl
+count_bare ts = refl
 
 looked_up_bare : {A : Type 0} (table : List (List ℕ × A)) (ts : Tokens) → looked_up table (bare ts) ≡ looked_up table ts
 looked_up_bare [] ts = refl
@@ -68,8 +54,7 @@ pub give_blind : {A : Type 0} (x : A) → Blind (give x)
 give_blind x = record { law = λ ts. refl }
 
 then_blind : {A B : Type 0} (read : Read A) (go : A → Rule B) → ((x : A) → Blind (go x)) → and_then (bare_read read) go ≡ bare_read (and_then read go)
-then_blind (Took x rest) go k = (k x).law rest
-then_blind (Stopped f) go k = refl
+then_blind read go k = grind arith
 
 pub bind_blind : {A B : Type 0} {rule : Rule A} {go : A → Rule B} → Blind rule → ((x : A) → Blind (go x)) → Blind (rule >>= go)
 bind_blind {rule = rule} {go = go} r k = record { law = λ ts. rw (r.law ts) (then_blind (rule ts) go k) }
@@ -86,8 +71,7 @@ lost_blind = record { law = λ ts. rw (unexpected_bare ts) refl }
 
 by_same_test : {A : Type 0} (b : Bool) (first second : Rule A) → Blind first → Blind second → (ts : Tokens)
     → elim b [ true ↦ first (bare ts) | false ↦ second (bare ts) ] ≡ bare_read (elim b [ true ↦ first ts | false ↦ second ts ])
-by_same_test true first second f g ts = f.law ts
-by_same_test false first second f g ts = g.law ts
+by_same_test b first second f g ts = grind arith
 
 by_test : {A : Type 0} (c b : Bool) → c ≡ b → (first second : Rule A) → Blind first → Blind second → (ts : Tokens)
     → elim c [ true ↦ first (bare ts) | false ↦ second (bare ts) ] ≡ bare_read (elim b [ true ↦ first ts | false ↦ second ts ])
@@ -107,8 +91,7 @@ numbered_blind {first = first} {second = second} f g = record { law = λ ts. by_
 
 by_same_entry : {A B : Type 0} (o : Option A) (found : A → Rule B) (second : Rule B) → ((x : A) → Blind (found x)) → Blind second → (ts : Tokens)
     → elim o [ Some x ↦ found x (bare ts) | None ↦ second (bare ts) ] ≡ bare_read (elim o [ Some x ↦ found x ts | None ↦ second ts ])
-by_same_entry (Some x) found second f g ts = (f x).law ts
-by_same_entry None found second f g ts = g.law ts
+by_same_entry o found second f g ts = grind arith
 
 by_entry : {A B : Type 0} (p o : Option A) → p ≡ o → (found : A → Rule B) (second : Rule B) → ((x : A) → Blind (found x)) → Blind second → (ts : Tokens)
     → elim p [ Some x ↦ found x (bare ts) | None ↦ second (bare ts) ] ≡ bare_read (elim o [ Some x ↦ found x ts | None ↦ second ts ])
@@ -146,16 +129,11 @@ number_blind = record {
 
 name_at : (b : Bool) (w : List ℕ) (at : ℕ) (rest : Tokens) (f g : TextFault) → g ≡ bare_fault f
     → elim b [ true ↦ Took w (bare rest) | false ↦ Stopped g ] ≡ bare_read (elim b [ true ↦ Took w rest | false ↦ Stopped f ])
-name_at true w at rest f g e = refl
-name_at false w at rest f g e = ap Stopped e
+name_at b w at rest f g e = grind arith
 
 name_read : (ts : Tokens) → name (bare ts) ≡ bare_read (name ts)
 unfolding name bare unexpected
-name_read (Then (Word w) at rest) = name_at (is_name w) w at rest _ _ refl
-name_read (Then (Number n) at rest) = refl
-name_read (Then (Mark s) at rest) = refl
-name_read (End at) = refl
-name_read (Bad f at) = refl
+name_read ts = grind arith
 
 pub name_blind : Blind name
 name_blind = record { law = name_read }

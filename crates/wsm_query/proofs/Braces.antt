@@ -1,16 +1,15 @@
 -- The rest of a brace, by what stands next.
-use Rattle.std.proofs.Common.{◌≡◌, ℕ, zero, suc, ◌-◌, ◌<◌, ◌≤◌, true, List, [], ◌∷◌, ◌++◌, refl, sym, ◌∙◌, arith, append_assoc, ap}
+use Rattle.std.proofs.Common.{◌≡◌, ℕ, suc, ◌-◌, ◌<◌, ◌≤◌, true, List, [], ◌∷◌, ◌++◌, refl, sym, ◌∙◌, arith, append_assoc, ap}
 use Rattle.wsm_tokens.specs.Tokens.{Tokens}
 use Rattle.wsm_tokens.specs.Read.{Read, Rule, Took, Stopped, ◌>>=◌, and_then, give, begins, behind, count}
-use Rattle.wsm_query.specs.Grammar.{turns, either}
+use Rattle.wsm_query.specs.Grammar.{turns}
 
 -- what a brace reads, behind what was read before
 abbrev pub with_front : {A : Type 0} → List A → Read (List A) → Read (List A)
 with_front front read = and_then read (λ xs. give (front ++ xs))
 
 turns_more : {A : Type 0} (n m : ℕ) (s : List ℕ) (rule : Rule A) (ts : Tokens) → n ≡ suc m → begins s ts ≡ true → turns n s rule ts ≡ and_then (rule (behind ts)) (λ x. turns m s rule >>= λ xs. give (x ∷ xs))
-turns_more zero m s rule ts i e = absurd (omega arith)
-turns_more (suc n) m s rule ts i e = let same : n ≡ m = omega arith in rw (← same, e, turns, either) refl
+turns_more n m s rule ts i e = grind arith
 
 -- what is read is the rest of a brace behind its turns so far
 pub record TurnsGoOn {A : Type 0} (s : List ℕ) (rule : Rule A) (front : List A) (ts : Tokens) (whole : Read (List A)) : Type 0 where

@@ -1,8 +1,7 @@
 -- The rest of a chain, by what stands next.
-use Rattle.std.proofs.Common.{◌≡◌, ℕ, zero, suc, List, refl, sym, ◌∙◌}
+use Rattle.std.proofs.Common.{◌≡◌, ℕ, List, refl, sym, ◌∙◌, arith}
 use Rattle.std.specs.Prelude.{Some, None}
 use Rattle.wsm_tokens.specs.declared.fault.Stop.{Stop}
-use Rattle.wsm_tokens.specs.declared.fault.Stop.TheVariants as stops
 use Rattle.wsm_tokens.specs.Tokens.{Tokens}
 use Rattle.wsm_tokens.specs.Read.{Read, Rule, Took, ◌>>=◌, and_then, Stops}
 use Rattle.wsm_query.specs.Tree.{Expr}
@@ -13,19 +12,16 @@ abbrev pub Table : Type 0
 Table = List (List ℕ × (Expr → Expr → Expr))
 
 pub stops_behind : {A B : Type 0} (stop : Stop) (read : Read A) (go : A → Rule B) → Stops stop read → Stops stop (and_then read go)
-stops_behind (stops.Text f) read go h = rw h refl
-stops_behind stops.Memory read go h = h
+stops_behind stop read go h = grind arith
 
 pub chain_ends : (n : ℕ) (table : Table) (rule : Rule Expr) (x : Expr) (ts : Tokens) → looked_up table ts ≡ None → chain n table rule x ts ≡ Took x ts
 unfolding chain
-chain_ends zero table rule x ts e = rw (e, chain) refl
-chain_ends (suc n) table rule x ts e = rw (e, chain) refl
+chain_ends n table rule x ts e = grind arith
 
 pub chain_turns : (n : ℕ) (table : Table) (rule : Rule Expr) (x : Expr) (ts : Tokens) (make : Expr → Expr → Expr) → looked_up table ts ≡ Some make
     → chain n table rule x ts ≡ and_then (spend n ts) (λ m. rule >>= λ y. chain m table rule (make x y))
 unfolding chain
-chain_turns zero table rule x ts make e = rw (e, chain) refl
-chain_turns (suc n) table rule x ts make e = rw (e, chain) refl
+chain_turns n table rule x ts make e = grind arith
 
 -- what is read is the rest of a chain behind the tree so far, with n operators left
 pub record GoesOn (n : ℕ) (table : Table) (rule : Rule Expr) (x : Expr) (ts : Tokens) (whole : Read Expr) : Type 0 where

@@ -1,10 +1,10 @@
 -- A query that was read from tokens is read from its own tokens again.
-use Rattle.std.proofs.Common.{◌≡◌, Bool, true, false, List, [], ◌∷◌, refl, sym, ap, subst, ◌∙◌}
+use Rattle.std.proofs.Common.{◌≡◌, Bool, true, false, List, [], ◌∷◌, refl, sym, ap, subst, ◌∙◌, arith}
 use Rattle.std.specs.Prelude.{codes}
 use Rattle.std.specs.List.{flat_map}
 use Rattle.std.specs.Cmp.Derive.{both_true}
 use Rattle.std.proofs.lemmas.Bool.{and_parts}
-use Rattle.wsm_tokens.specs.Tokens.{Token, Word, Tokens, Then, End, Bad}
+use Rattle.wsm_tokens.specs.Tokens.{Token, Word, Tokens, Then, End}
 use Rattle.wsm_tokens.specs.Proper.{is_proper, are_proper, has_proper}
 use Rattle.wsm_tokens.specs.Read.{Read, Rule, Took, Stopped, ◌>>=◌, give, and_then, unexpected, begins, behind, number, is_end, ask, ended}
 use Rattle.wsm_tokens.specs.Written.{bare, put}
@@ -22,8 +22,7 @@ use Rattle.wsm_query.proofs.Tail.{behind_sources, behind_fields, tail_blind, hea
 bare_proper : (ts : Tokens) → Proper ts → Proper (bare ts)
 unfolding bare has_proper
 bare_proper (Then t at rest) p = let q = and_parts (is_proper t) (has_proper rest) p in both_true q.0 (bare_proper rest q.1)
-bare_proper (End at) p = refl
-bare_proper (Bad f at) p = refl
+bare_proper ts p = refl
 
 put_proper : (us : List Token) (k : Tokens) → are_proper us ≡ true → Proper k → Proper (put us k)
 unfolding has_proper
@@ -121,9 +120,7 @@ query_rounds ts p = keys_rounds (clause (codes "KEYS") names ts) (keys_back.law 
 
 end_bare : (rest : Tokens) → is_end rest ≡ true → bare rest ≡ End 0
 unfolding is_end bare
-end_bare (Then t at rest) e = cc
-end_bare (End at) e = refl
-end_bare (Bad f at) e = cc
+end_bare rest e = grind arith
 
 -- all of the tokens of the query are read as that query, and a text can have them
 pub record Whole (q : Query) : Type 0 where

@@ -1,8 +1,8 @@
 -- A query that a text was read as is read again from the text that it is printed as.
-use Rattle.std.proofs.Common.{◌≡◌, ℕ, List, sym, ap, subst, ◌∙◌}
+use Rattle.std.proofs.Common.{◌≡◌, ℕ, List, sym, ap, subst, ◌∙◌, arith}
 use Rattle.std.specs.Prelude.{Ok, codes}
 use Rattle.wsm_tokens.specs.Tokens.{Tokens, End, tokens}
-use Rattle.wsm_tokens.specs.Read.{Read, Took, Stopped}
+use Rattle.wsm_tokens.specs.Read.{Read, Took}
 use Rattle.wsm_tokens.specs.Written.{written}
 use Rattle.wsm_tokens.proofs.Proper.{tokens_are_proper}
 use Rattle.wsm_tokens.proofs.ReadBack.{read_back}
@@ -26,8 +26,7 @@ text_blind = bind_blind query_blind (λ q. bind_blind ended_blind (λ _. give_bl
 
 -- where the reading is of these tokens but for their places, its outcome is the query
 outcome_of : (text : List ℕ) (read : Read Query) (q : Query) (k : Tokens) → bare_read read ≡ Took q k → outcome text read ≡ Ok q
-outcome_of text (Took given rest) q k e = let same : given ≡ q = cc in ap (λ q. Ok q) same
-outcome_of text (Stopped f) q k e = cc
+outcome_of text read q k e = grind arith
 
 printed : (q : Query) → Whole q → parse (print q) ≡ Ok q
 unfolding parse print

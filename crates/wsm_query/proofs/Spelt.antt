@@ -1,12 +1,10 @@
 -- What a rule took is the tokens of its tree: with what it read and the tokens behind that, the tokens where it began are put together again.
-use Rattle.std.proofs.Common.{◌≡◌, ℕ, Bool, true, false, List, [], ◌∷◌, ◌++◌, refl, sym, ap, subst, ◌∙◌}
+use Rattle.std.proofs.Common.{◌≡◌, ℕ, Bool, true, false, List, [], ◌∷◌, ◌++◌, refl, sym, ap, subst, ◌∙◌, arith}
 use Rattle.std.specs.Prelude.{Option, Some, None, bytes_eq, nat_le}
-use Rattle.std.proofs.lemmas.Bool.{and_parts}
 use Rattle.std.proofs.lemmas.Slice.Eq.{bytes_eq-Decides}
 use Rattle.wsm_record.specs.Name.{is_word}
 use Rattle.wsm_tokens.specs.declared.token.Sign.{Sign}
-use Rattle.wsm_tokens.specs.declared.token.Sign.TheVariants as signs
-use Rattle.wsm_tokens.specs.Tokens.{Token, Word, Mark, Number, Tokens, Then, End, Bad, sign_text, sign_of}
+use Rattle.wsm_tokens.specs.Tokens.{Token, Word, Mark, Number, Tokens, Then, sign_text, sign_of}
 use Rattle.wsm_tokens.specs.Proper.{is_proper, has_proper}
 use Rattle.wsm_tokens.specs.Read.{Read, Rule, Took, Stopped, ◌>>=◌, give, and_then, unexpected, too_deep, begins, begins_number, behind, spelling}
 use Rattle.wsm_tokens.specs.Written.{bare, put}
@@ -31,62 +29,14 @@ is_worded [] = false
 is_worded (c ∷ cs) = nat_le 65 c
 
 no_worded_sign : (s : Sign) → is_worded (sign_text s) ≡ false
-no_worded_sign signs.Comma = refl
-no_worded_sign signs.Semicolon = refl
-no_worded_sign signs.Open = refl
-no_worded_sign signs.Close = refl
-no_worded_sign signs.Dot = refl
-no_worded_sign signs.DotDot = refl
-no_worded_sign signs.Plus = refl
-no_worded_sign signs.Minus = refl
-no_worded_sign signs.Star = refl
-no_worded_sign signs.Slash = refl
-no_worded_sign signs.Percent = refl
-no_worded_sign signs.Equal = refl
-no_worded_sign signs.NotEqual = refl
-no_worded_sign signs.Less = refl
-no_worded_sign signs.LessOrEqual = refl
-no_worded_sign signs.Greater = refl
-no_worded_sign signs.GreaterOrEqual = refl
+no_worded_sign s = grind arith
 
 no_sign_word : (s : Sign) → is_word (sign_text s) ≡ false
-no_sign_word signs.Comma = refl
-no_sign_word signs.Semicolon = refl
-no_sign_word signs.Open = refl
-no_sign_word signs.Close = refl
-no_sign_word signs.Dot = refl
-no_sign_word signs.DotDot = refl
-no_sign_word signs.Plus = refl
-no_sign_word signs.Minus = refl
-no_sign_word signs.Star = refl
-no_sign_word signs.Slash = refl
-no_sign_word signs.Percent = refl
-no_sign_word signs.Equal = refl
-no_sign_word signs.NotEqual = refl
-no_sign_word signs.Less = refl
-no_sign_word signs.LessOrEqual = refl
-no_sign_word signs.Greater = refl
-no_sign_word signs.GreaterOrEqual = refl
+no_sign_word s = grind arith
 
 sign_back : (s : Sign) → sign_of (sign_text s) ≡ Some s
 unfolding sign_of
-sign_back signs.Comma = refl
-sign_back signs.Semicolon = refl
-sign_back signs.Open = refl
-sign_back signs.Close = refl
-sign_back signs.Dot = refl
-sign_back signs.DotDot = refl
-sign_back signs.Plus = refl
-sign_back signs.Minus = refl
-sign_back signs.Star = refl
-sign_back signs.Slash = refl
-sign_back signs.Percent = refl
-sign_back signs.Equal = refl
-sign_back signs.NotEqual = refl
-sign_back signs.Less = refl
-sign_back signs.LessOrEqual = refl
-sign_back signs.Greater = refl
-sign_back signs.GreaterOrEqual = refl
+sign_back s = grind arith
 
 no_sign : sign_of [] ≡ None
 unfolding sign_of
@@ -111,16 +61,7 @@ some_same : (g h : Sign) → ◌≡◌ {A = Option Sign} (Some g) (Some h) → h
 some_same g h e = cc
 
 sign_only : (g : Sign) (u : Token) → is_proper u ≡ true → bytes_eq (sign_text g) (spelling u) ≡ true → u ≡ Mark g
-sign_only g (Word w) p e =
-    let same : sign_text g ≡ w = same_bytes (sign_text g) w e in
-    differ (is_word w) (and_parts (is_word w) _ p).0 (ap is_word (sym same) ∙ no_sign_word g)
-sign_only g (Mark h) p e =
-    let same : sign_text g ≡ sign_text h = same_bytes (sign_text g) (sign_text h) e in
-    ap Mark (some_same g h (sym (sign_back g) ∙ ap sign_of same ∙ sign_back h))
-sign_only g (Number n) p e =
-    let same : sign_text g ≡ [] = same_bytes (sign_text g) [] e in
-    let none : ◌≡◌ {A = Option Sign} (Some g) None = sym (sign_back g) ∙ ap sign_of same ∙ no_sign in
-    cc
+sign_only g u p e = grind arith
 
 pub sign_says : (g : Sign) → Says (sign_text g) (Mark g)
 sign_says g = record { only = sign_only g }
@@ -133,12 +74,7 @@ pub record First (t : Token) (ts : Tokens) : Type 0 where
 
 pub begun : (s : List ℕ) (t : Token) → Says s t → (ts : Tokens) → Proper ts → begins s ts ≡ true → First t ts
 unfolding begins behind bare has_proper
-begun s t k (Then u at rest) p e =
-    let q = and_parts (is_proper u) (has_proper rest) p in
-    let same : u ≡ t = k.only u q.0 e in
-    record { same = ap (λ v. Then v 0 (bare rest)) same; proper = q.1; itself = ap is_proper (sym same) ∙ q.0 }
-begun s t k (End at) p e = differ false e refl
-begun s t k (Bad f at) p e = differ false e refl
+begun s t k ts p e = grind arith
 
 -- what a rule leaves of tokens that began as b
 abbrev pub Ends : {A : Type 0} → Tokens → (A → List Token) → Read A → Type 0

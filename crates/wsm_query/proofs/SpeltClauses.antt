@@ -1,5 +1,5 @@
 -- What each clause took is the tokens of its tree.
-use Rattle.std.proofs.Common.{◌≡◌, ℕ, zero, suc, true, false, List, [], ◌∷◌, ◌++◌, map, refl, ap, append_assoc, append-nil}
+use Rattle.std.proofs.Common.{◌≡◌, ℕ, zero, suc, true, false, List, [], ◌∷◌, ◌++◌, map, refl, ap, append_assoc, append-nil, arith}
 use Rattle.std.specs.Prelude.{Option, Some, None, codes}
 use Rattle.std.specs.List.{flat_map}
 use Rattle.wsm_record.specs.declared.words.Mode.TheVariants.{Discarding, Accumulating, Retracting}
@@ -8,11 +8,11 @@ use Rattle.wsm_windows.specs.declared.window.Shape.TheVariants.{Fixed, Sliding, 
 use Rattle.wsm_tokens.specs.declared.token.Sign.{Sign}
 use Rattle.wsm_tokens.specs.declared.token.Sign.TheVariants as signs
 use Rattle.wsm_tokens.specs.Tokens.{Token, Word, Mark, Tokens, sign_text}
-use Rattle.wsm_tokens.specs.Read.{Read, Rule, Took, Stopped, ◌>>=◌, give, and_then, count, behind, ask, name}
-use Rattle.wsm_query.specs.declared.reading.Written.{Written}
-use Rattle.wsm_query.specs.Tree.{Name, Budget, Selection}
+use Rattle.wsm_tokens.specs.Read.{Read, Rule, Took, ◌>>=◌, give, and_then, count, behind, ask, name}
+use Rattle.wsm_query.specs.declared.query.Budget.{Budget}
+use Rattle.wsm_query.specs.Tree.{Name, Selection}
 use Rattle.wsm_query.specs.Grammar.{one_of, until, clause, optional, turns, brace, list_of, expr, names, sources, from_window, budget, clock, selection, output, shape, mode, form, every}
-use Rattle.wsm_query.specs.Print.{figures, expr_tokens, with_commas, clause_tokens, sources_tokens, from_window_tokens, budget_tokens, condition_tokens, shape_tokens, mode_word, every_tokens, form_word, clock_tokens}
+use Rattle.wsm_query.specs.Print.{figures, expr_tokens, with_commas, clause_tokens, sources_tokens, from_window_tokens, budget_tokens, condition_tokens, shape_tokens, mode_word, every_tokens, form_word, clock_tokens, output_tokens}
 use Rattle.wsm_query.proofs.Spelt.{Says, word_says, sign_says, Spelt, spelt, step, done, alike_goes, behind_opens, lost_goes, either_goes, Entry, Entries, listed_goes}
 use Rattle.wsm_query.proofs.SpeltRules.{word_spelt, sign_spelt, after_spelt, number_spelt, name_spelt, expr_spelt}
 
@@ -50,13 +50,11 @@ named : Name → Rule (List Name)
 named x = brace (codes ",") name >>= λ xs. ask (codes ";") >>= λ _. give (x ∷ xs)
 
 made_of : (x : Name) (read : Read (List Name)) → and_then (and_then read (λ xs. give (x ∷ xs))) (λ xs. ask (codes ";") >>= λ _. give xs) ≡ and_then read (λ xs. ask (codes ";") >>= λ _. give (x ∷ xs))
-made_of x (Took xs rest) = refl
-made_of x (Stopped f) = refl
+made_of x read = grind arith
 
 made : (read : Read Name) → and_then (and_then read (λ x. brace (codes ",") name >>= λ xs. give (x ∷ xs))) (λ xs. ask (codes ";") >>= λ _. give xs) ≡ and_then read named
 unfolding named
-made (Took x rest) = made_of x (brace (codes ",") name rest)
-made (Stopped f) = refl
+made read = grind arith
 
 names_ended : (ts : Tokens) → until (codes ";") names ts ≡ (name >>= named) ts
 unfolding names list_of
@@ -170,12 +168,6 @@ selection_spelt =
     step (condition_spelt (codes "WHERE") (word_says _ refl)) (λ condition.
     step (condition_spelt (codes "HAVING") (word_says _ refl)) (λ having.
     done (record { columns = columns; condition = condition; having = having }) refl))))
-
--- what is written, as it is printed
-abbrev pub output_tokens : Written → List Token
-output_tokens o =
-    Word (codes "WINDOW") ∷ shape_tokens o.shape ++ Word (mode_word o.mode) ∷ every_tokens (codes "EARLY") o.early ++ every_tokens (codes "LATE") o.late
-    ++ clause_tokens (codes "EMIT") (Word (form_word o.form) ∷ [])
 
 pub output_spelt : Spelt output output_tokens
 unfolding output

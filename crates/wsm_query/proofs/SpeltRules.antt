@@ -1,15 +1,13 @@
 -- What each rule of expressions took is the tokens of its tree.
-use Rattle.std.proofs.Common.{◌≡◌, ℕ, zero, suc, Bool, true, false, List, [], ◌∷◌, ◌++◌, pos, negsuc, refl, sym, ap, ◌∙◌, append_assoc}
+use Rattle.std.proofs.Common.{◌≡◌, ℕ, zero, suc, Bool, true, false, List, [], ◌∷◌, ◌++◌, refl, sym, ap, ◌∙◌, append_assoc, arith}
 use Rattle.std.specs.Prelude.{Option, Some, None, codes}
-use Rattle.std.proofs.lemmas.Bool.{and_parts}
-use Rattle.wsm_record.specs.Name.{is_name}
 use Rattle.wsm_record.specs.declared.words.Kind.{Kind}
 use Rattle.wsm_record.specs.declared.words.Kind.TheVariants.{Sum, Min, Max, Any, All}
 use Rattle.wsm_tokens.specs.declared.fault.TextFault.{TextFault}
 use Rattle.wsm_tokens.specs.declared.token.Sign.{Sign}
 use Rattle.wsm_tokens.specs.declared.token.Sign.TheVariants as signs
-use Rattle.wsm_tokens.specs.Tokens.{Token, Word, Mark, Number as Figure, Tokens, Then, End, Bad, sign_text}
-use Rattle.wsm_tokens.specs.Proper.{is_proper, has_proper}
+use Rattle.wsm_tokens.specs.Tokens.{Token, Word, Mark, Tokens, Then, sign_text}
+use Rattle.wsm_tokens.specs.Proper.{has_proper}
 use Rattle.wsm_tokens.specs.Read.{Rule, Took, Stopped, ◌>>=◌, give, and_then, too_deep, unexpected, behind, ask, number, name, begins}
 use Rattle.wsm_tokens.specs.Written.{bare}
 use Rattle.wsm_query.specs.Tree.{Name, Expr, Number, Truth, Field, EnumName, Key, KeyName, Count, Aggregate, If, Brackets, Minus, Not}
@@ -17,7 +15,7 @@ use Rattle.wsm_record.specs.declared.limits.TheConstants.{MAX_CHAIN, MAX_LEVELS}
 use Rattle.wsm_query.specs.Grammar.{after, kinds, aggregate, count_of, choice, brackets, pointed, leaf, atom, unary, chain, chained, products, sums, comparisons, ands, ors, prod, sum, compared, cmp, neg, conj, expr_in, Deeper, opened, deeper, levels, expr}
 use Rattle.wsm_query.specs.Print.{figures, kind_word, expr_tokens}
 use Rattle.wsm_query.proofs.Chains.{Table}
-use Rattle.wsm_query.proofs.Spelt.{Proper, Says, word_says, sign_says, differ, begun, Ends, Spelt, Goes, Opens, spelt, goes, last_goes, step, done, moved, behind_opens, deep_opens, at_goes, either_goes, numbered_goes, Entry, Entries, listed_goes}
+use Rattle.wsm_query.proofs.Spelt.{Proper, Says, word_says, sign_says, begun, Ends, Spelt, Goes, Opens, spelt, goes, last_goes, step, done, moved, behind_opens, deep_opens, at_goes, either_goes, numbered_goes, Entry, Entries, listed_goes}
 
 ask_ends : (s : List ℕ) (t : Token) → Says s t → (ts : Tokens) → Proper ts → (c : Bool) → begins s ts ≡ c
     → Ends (bare ts) (λ (u : Unit {0}). t ∷ []) (elim c [ true ↦ Took tt (behind ts) | false ↦ Stopped (unexpected ts) ])
@@ -39,12 +37,7 @@ after_spelt s k r = spelt (λ b. step (word_spelt s k) (λ _. last_goes r (λ x.
 
 number_ends : (ts : Tokens) → Proper ts → Ends (bare ts) figures (number ts)
 unfolding number bare has_proper
-number_ends (Then (Figure (pos n)) at rest) p = (refl, (and_parts (is_proper (Figure (pos n))) (has_proper rest) p).1)
-number_ends (Then (Figure (negsuc n)) at rest) p = differ false p refl
-number_ends (Then (Word w) at rest) p = tt
-number_ends (Then (Mark s) at rest) p = tt
-number_ends (End at) p = tt
-number_ends (Bad f at) p = tt
+number_ends ts p = grind arith
 
 pub number_spelt : Spelt number figures
 number_spelt = record { law = number_ends }
@@ -56,11 +49,7 @@ name_case false w rest f p = tt
 
 name_ends : (ts : Tokens) → Proper ts → Ends (bare ts) (λ x. Word x ∷ []) (name ts)
 unfolding name bare has_proper
-name_ends (Then (Word w) at rest) p = name_case (is_name w) w rest _ (and_parts (is_proper (Word w)) (has_proper rest) p).1
-name_ends (Then (Figure n) at rest) p = tt
-name_ends (Then (Mark s) at rest) p = tt
-name_ends (End at) p = tt
-name_ends (Bad f at) p = tt
+name_ends ts p = grind arith
 
 pub name_spelt : Spelt name (λ x. Word x ∷ [])
 name_spelt = record { law = name_ends }
@@ -77,8 +66,7 @@ SpeltIn (Some d) = SpeltAt d
 
 opened_goes : {B : Type 0} {b : Tokens} {front : List Token} {final : B → List Token} (d : Option Deeper) → SpeltIn d → {go : Deeper → Rule B}
     → ((e : Deeper) → SpeltAt e → Goes b front (go e) final) → Opens b front (opened d >>= go) final
-opened_goes None k g = deep_opens
-opened_goes (Some e) k g = behind_opens (g e k)
+opened_goes d k g = grind arith
 
 aggregate_opens : {b : Tokens} (d : Option Deeper) → SpeltIn d → (kind : Kind) → Opens b (Word (kind_word kind) ∷ []) (aggregate d kind) expr_tokens
 unfolding aggregate

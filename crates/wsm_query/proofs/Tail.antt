@@ -28,11 +28,7 @@ behind_sources keys fields sources = do
     columns = selection.columns;
     condition = selection.condition;
     having = selection.having;
-    shape = output.shape;
-    mode = output.mode;
-    early = output.early;
-    late = output.late;
-    form = output.form;
+    output = output;
   })
 
 abbrev pub behind_fields : List Name → List DeclaredField → Rule Query
@@ -52,9 +48,9 @@ tail_blind keys fields =
 abbrev pub head_tokens : List Name → List DeclaredField → List Token
 head_tokens keys fields = clause_tokens (codes "KEYS") (name_tokens keys) ++ flat_map field_tokens fields
 
--- the clauses of what is selected and of what is written, one by one
-apart : (h o k b c w v x m t f : List Token) → h ++ o ++ k ++ b ++ (c ++ w ++ v) ++ (x ++ m ++ t ++ f) ≡ h ++ o ++ k ++ b ++ c ++ w ++ v ++ x ++ m ++ t ++ f
-apart h o k b c w v x m t f = simp append_assoc
+-- the clauses of what is selected, one by one
+apart : (h o k b c w v x : List Token) → h ++ o ++ k ++ b ++ (c ++ w ++ v) ++ x ≡ h ++ o ++ k ++ b ++ c ++ w ++ v ++ x
+apart h o k b c w v x = simp append_assoc
 
 pub tail_goes : {b : Tokens} (keys : List Name) (fields : List DeclaredField) → Goes b (head_tokens keys fields) (behind_fields keys fields) query_tokens
 tail_goes keys fields =
@@ -73,10 +69,6 @@ tail_goes keys fields =
       columns = selection.columns;
       condition = selection.condition;
       having = selection.having;
-      shape = output.shape;
-      mode = output.mode;
-      early = output.early;
-      late = output.late;
-      form = output.form;
+      output = output;
     })
     (search apart))))))

@@ -13,11 +13,12 @@ use Rattle.wsm_tokens.specs.Tokens.{Tokens}
 use Rattle.wsm_tokens.specs.Read.{Rule, Took, Stopped, ◌>>=◌, give, and_then, unexpected, too_deep, begins, begins_number, behind, count, ask, number, name}
 use Rattle.wsm_query.specs.declared.expr.Op.{Op}
 use Rattle.wsm_admission.specs.declared.clock.Clock.{Clock}
-use Rattle.wsm_query.specs.declared.reading.Written.{Written}
+use Rattle.wsm_query.specs.declared.query.Budget.{Budget}
+use Rattle.wsm_query.specs.declared.query.Output.{Output}
 use Rattle.wsm_query.specs.declared.expr.Op.TheVariants.{Add, Sub, Mul, Div, Rem, Eq, Ne, Lt, Le, Gt, Ge}
 use Rattle.wsm_record.specs.Schema.{FieldType, DeclaredField}
 use Rattle.wsm_record.specs.Schema as field_types
-use Rattle.wsm_query.specs.Tree.{Name, Budget, Query, Selection, Expr, Number, Truth, Field, EnumName, Key, KeyName, Count, Aggregate, If, Brackets, Minus, Not, Binary, And, Or}
+use Rattle.wsm_query.specs.Tree.{Name, Query, Selection, Expr, Number, Truth, Field, EnumName, Key, KeyName, Count, Aggregate, If, Brackets, Minus, Not, Binary, And, Or}
 
 -- what stands beside the next token in a table of words and signs
 abbrev pub looked_up : {A : Type 0} → List (List ℕ × A) → Tokens → Option A
@@ -307,7 +308,7 @@ selection = do
   give (record { columns = columns; condition = condition; having = having })
 
 -- WINDOW to EMIT
-unfoldable pub output : Rule Written
+unfoldable pub output : Rule Output
 output = do
   shape ← after (codes "WINDOW") shape
   mode ← mode
@@ -334,9 +335,5 @@ query = do
     columns = selection.columns;
     condition = selection.condition;
     having = selection.having;
-    shape = output.shape;
-    mode = output.mode;
-    early = output.early;
-    late = output.late;
-    form = output.form;
+    output = output;
   })

@@ -15,10 +15,12 @@ use Rattle.wsm_tokens.specs.Tokens.{Token, Word, Mark, Number as Figure}
 use Rattle.wsm_tokens.specs.Written.{written}
 use Rattle.wsm_admission.specs.declared.clock.Clock.{Clock}
 use Rattle.wsm_query.specs.declared.expr.Op.{Op}
+use Rattle.wsm_query.specs.declared.query.Budget.{Budget}
+use Rattle.wsm_query.specs.declared.query.Output.{Output}
 use Rattle.wsm_query.specs.declared.expr.Op.TheVariants.{Add, Sub, Mul, Div, Rem, Eq, Ne, Lt, Le, Gt, Ge}
 use Rattle.wsm_record.specs.Schema.{FieldType, DeclaredField}
 use Rattle.wsm_record.specs.Schema as field_types
-use Rattle.wsm_query.specs.Tree.{Name, Budget, Query, Expr, Number, Truth, Field, EnumName, Key, KeyName, Count, Aggregate, If, Brackets, Minus, Not, Binary, And, Or}
+use Rattle.wsm_query.specs.Tree.{Name, Query, Expr, Number, Truth, Field, EnumName, Key, KeyName, Count, Aggregate, If, Brackets, Minus, Not, Binary, And, Or}
 
 -- a number, behind a minus sign where it is negative
 abbrev pub figures : ℤ → List Token
@@ -139,6 +141,14 @@ clock_tokens c =
     ++ clause_tokens (codes "LATENESS") (figures c.lateness ++ from_window_tokens c.from_window)
     ++ clause_tokens (codes "RECORDS") (figures c.records)
 
+-- from WINDOW to EMIT
+abbrev pub output_tokens : Output → List Token
+output_tokens o =
+    Word (codes "WINDOW") ∷ shape_tokens o.shape
+    ++ Word (mode_word o.mode) ∷ every_tokens (codes "EARLY") o.early
+    ++ every_tokens (codes "LATE") o.late
+    ++ clause_tokens (codes "EMIT") (Word (form_word o.form) ∷ [])
+
 abbrev pub query_tokens : Query → List Token
 query_tokens q =
     clause_tokens (codes "KEYS") (name_tokens q.keys)
@@ -149,10 +159,7 @@ query_tokens q =
     ++ Word (codes "SELECT") ∷ with_commas (map expr_tokens q.columns)
     ++ condition_tokens (codes "WHERE") q.condition
     ++ condition_tokens (codes "HAVING") q.having
-    ++ Word (codes "WINDOW") ∷ shape_tokens q.shape
-    ++ Word (mode_word q.mode) ∷ every_tokens (codes "EARLY") q.early
-    ++ every_tokens (codes "LATE") q.late
-    ++ clause_tokens (codes "EMIT") (Word (form_word q.form) ∷ [])
+    ++ output_tokens q.output
 
 unfoldable pub print : Query → List ℕ
 print q = written (query_tokens q)

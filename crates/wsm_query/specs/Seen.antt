@@ -3,10 +3,9 @@ use Rattle.std.specs.Prelude.{map, option_map}
 use Rattle.wsm_query.specs.declared.expr.Expr.{Expr as Code}
 use Rattle.wsm_query.specs.declared.expr.Expr.TheVariants as code
 use Rattle.wsm_record.specs.Fields.{declared_field}
-use Rattle.wsm_query.specs.declared.query.Budget.{Budget as CodeBudget}
 use Rattle.wsm_query.specs.declared.query.Query.{Query as CodeQuery}
 use Rattle.wsm_query.specs.declared.reading.Selected.{Selected}
-use Rattle.wsm_query.specs.Tree.{Budget, Query, Selection, Expr, Number, Truth, Field, EnumName, Key, KeyName, Count, Aggregate, If, Brackets, Minus, Not, Binary, And, Or}
+use Rattle.wsm_query.specs.Tree.{Query, Selection, Expr, Number, Truth, Field, EnumName, Key, KeyName, Count, Aggregate, If, Brackets, Minus, Not, Binary, And, Or}
 
 abbrev pub seen_expr : Code → Expr
 seen_expr (code.Number n) = Number n
@@ -25,9 +24,6 @@ seen_expr (code.Binary' op p x q y) = Binary op (seen_expr x) (seen_expr y)
 seen_expr (code.And' p x q y) = And (seen_expr x) (seen_expr y)
 seen_expr (code.Or' p x q y) = Or (seen_expr x) (seen_expr y)
 
-abbrev pub seen_budget : CodeBudget → Budget
-seen_budget b = record { per_record = b.per_record; per_pane = b.per_pane; held = b.held }
-
 abbrev pub seen_selection : Selected → Selection
 seen_selection s = record { columns = map seen_expr s.columns.items; condition = option_map (λ b. seen_expr b.value) s.condition; having = option_map (λ b. seen_expr b.value) s.having }
 
@@ -37,13 +33,9 @@ seen q = record {
   fields = map declared_field q.fields.items;
   sources = q.sources.items;
   clock = q.clock;
-  budget = option_map seen_budget q.budget;
+  budget = q.budget;
   columns = map seen_expr q.columns.items;
   condition = option_map seen_expr q.condition;
   having = option_map seen_expr q.having;
-  shape = q.shape;
-  mode = q.mode;
-  early = q.early;
-  late = q.late;
-  form = q.form;
+  output = q.output;
 }

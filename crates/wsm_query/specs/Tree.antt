@@ -2,12 +2,11 @@
 -- Akidau et al. 2015, "The Dataflow Model", and the forms of the output those of Arasu et al. 2006, "The CQL continuous query language".
 use Rattle.std.specs.Prelude.{ℕ, Bool, List, ℤ, Option}
 use Rattle.wsm_record.specs.declared.words.Kind.{Kind}
-use Rattle.wsm_record.specs.declared.words.Mode.{Mode}
-use Rattle.wsm_record.specs.declared.words.Form.{Form}
 use Rattle.wsm_record.specs.Schema.{DeclaredField}
-use Rattle.wsm_windows.specs.declared.window.Shape.{Shape}
 use Rattle.wsm_admission.specs.declared.clock.Clock.{Clock}
 use Rattle.wsm_query.specs.declared.expr.Op.{Op}
+use Rattle.wsm_query.specs.declared.query.Budget.{Budget}
+use Rattle.wsm_query.specs.declared.query.Output.{Output}
 
 -- a name, as its bytes
 abbrev pub Name : Type 0
@@ -31,18 +30,13 @@ pub data Expr : Type 0 where
   And : (left : Expr) → (right : Expr) → Expr
   Or : (left : Expr) → (right : Expr) → Expr
 
-pub record Budget : Type 0 where
-  pub per_record : ℤ
-  pub per_pane : ℤ
-  pub held : ℤ
-
 -- what is selected, and of which records and panes
 pub record Selection : Type 0 where
   pub columns : List Expr
   pub condition : Option Expr  -- WHERE
   pub having : Option Expr
 
--- a query, with a field for each clause
+-- a query, by its clauses
 pub record Query : Type 0 where
   pub keys : List Name
   pub fields : List DeclaredField
@@ -52,8 +46,4 @@ pub record Query : Type 0 where
   pub columns : List Expr
   pub condition : Option Expr  -- WHERE
   pub having : Option Expr
-  pub shape : Shape
-  pub mode : Mode
-  pub early : Option ℤ
-  pub late : Option ℤ
-  pub form : Form
+  pub output : Output  -- WINDOW to EMIT

@@ -41,11 +41,7 @@ base = record {
   columns = Count ∷ Aggregate Sum (Field (codes "n")) ∷ [];
   condition = None;
   having = None;
-  shape = Fixed (pos 60);
-  mode = Accumulating;
-  early = None;
-  late = None;
-  form = Panes;
+  output = record { shape = Fixed (pos 60); mode = Accumulating; early = None; late = None; form = Panes };
 }
 
 -- what a text comes to
@@ -88,8 +84,8 @@ abbrev printed : List (List ℕ × Result Query ParseRefusal)
 printed =
     (codes "KEYS a , b ; FIELD n INT 0 .. 100 ; SOURCES x ; START 0 ; SKEW 100 ; LATENESS 10 ; RECORDS 1000 ; SELECT COUNT ( * ) , SUM ( n ) WINDOW FIXED 60 ACCUMULATING EMIT PANES ;", Ok (record base { sources = codes "x" ∷ [] }))
     ∷ (codes "KEYS a , b ; FIELD n INT 0 .. 100 ; START 0 ; SKEW 100 ; LATENESS 10 FROM WINDOW ; RECORDS 1000 ; SELECT COUNT ( * ) , SUM ( n ) WINDOW FIXED 60 ACCUMULATING EMIT PANES ;", Ok (record base { clock = record base.clock { from_window = true } }))
-    ∷ (codes "KEYS a , b ; FIELD n INT 0 .. 100 ; START 0 ; SKEW 100 ; LATENESS 10 ; RECORDS 1000 ; SELECT COUNT ( * ) , SUM ( n ) WINDOW FIXED 60 RETRACTING EMIT PANES ;", Ok (record base { mode = Retracting }))
-    ∷ (codes "KEYS a , b ; FIELD n INT 0 .. 100 ; SOURCES x , y ; START 0 ; SKEW 100 ; LATENESS 10 FROM WINDOW ; RECORDS 1000 ; SELECT COUNT ( * ) , SUM ( n ) WINDOW FIXED 60 RETRACTING EMIT PANES ;", Ok (record base { sources = codes "x" ∷ codes "y" ∷ []; clock = record base.clock { from_window = true }; mode = Retracting }))
+    ∷ (codes "KEYS a , b ; FIELD n INT 0 .. 100 ; START 0 ; SKEW 100 ; LATENESS 10 ; RECORDS 1000 ; SELECT COUNT ( * ) , SUM ( n ) WINDOW FIXED 60 RETRACTING EMIT PANES ;", Ok (record base { output = record base.output { mode = Retracting } }))
+    ∷ (codes "KEYS a , b ; FIELD n INT 0 .. 100 ; SOURCES x , y ; START 0 ; SKEW 100 ; LATENESS 10 FROM WINDOW ; RECORDS 1000 ; SELECT COUNT ( * ) , SUM ( n ) WINDOW FIXED 60 RETRACTING EMIT PANES ;", Ok (record base { sources = codes "x" ∷ codes "y" ∷ []; clock = record base.clock { from_window = true }; output = record base.output { mode = Retracting } }))
     ∷ []
 
 printed_read : map (λ t. (t.0, parse t.0)) printed ≡ printed

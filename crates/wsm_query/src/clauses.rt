@@ -4,7 +4,7 @@ ghost use Rattle.std.specs.Prelude.{◌≡◌, ◌≤◌, codes, map};
 ghost use Rattle.wsm_tokens.specs.Read.{Gives, count, number};
 ghost use Rattle.wsm_query.specs.Grammar.{int, names, type_of, field, brace, list_of, expr, shape, mode, form, every, budget, clause as one_clause, clock, from_window, sources};
 ghost use Rattle.wsm_record.specs.Fields.{declared_field, declared_type};
-ghost use Rattle.wsm_query.specs.Seen.{seen_budget, seen_expr};
+ghost use Rattle.wsm_query.specs.Seen.{seen_expr};
 
 use crate::expr::Expr;
 use crate::parse_expr::expression;
@@ -248,7 +248,7 @@ pub fn every(reader: &mut Reader) -> Result<i64, Stop>
 /// `"RECORD" num "PANE" num "HELD" num ";"`, behind BUDGET
 #[tactic(auto, unfolding(crate::specs::Grammar::budget))]
 pub fn budget(reader: &mut Reader) -> Result<Budget, Stop>
-    ensures gives { Gives seen_budget result reader.new (budget reader.old) }
+    ensures gives { Gives (λ b. b) result reader.new (budget reader.old) }
     ensures onward { count reader.new ≤ count reader.old }
 {
     reader.ask(b"RECORD")?;

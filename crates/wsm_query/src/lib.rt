@@ -18,7 +18,7 @@
 //! use wsm_windows::Shape;
 //!
 //! let query = parse(alloc, text)?;
-//! assert_eq!(rt; query.shape, Shape::Fixed(60));
+//! assert_eq!(rt; query.output.shape, Shape::Fixed(60));
 //! assert_eq!(rt; query.columns.len(), 2);
 //! let printed = print(alloc, &query)?; // parsed again, it gives the same query
 //!
@@ -35,7 +35,7 @@
 
 pub use expr::{Expr, Op};
 pub use printing::print;
-pub use query::{Budget, Query};
+pub use query::{Budget, Output, Query};
 pub use reading::parse;
 
 mod clauses;

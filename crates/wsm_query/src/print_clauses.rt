@@ -6,7 +6,7 @@ ghost use Rattle.wsm_query.specs.Adds.{adds, comma_before};
 ghost use Rattle.wsm_query.specs.Print as rule;
 ghost use Rattle.wsm_query.specs.Print.{budget_tokens, clause_tokens, clock_tokens, condition_tokens, every_tokens, expr_tokens, field_tokens, figures, from_window_tokens, name_tokens, shape_tokens, sources_tokens, ty_tokens, with_commas};
 ghost use Rattle.wsm_record.specs.Fields.{declared_field, declared_type};
-ghost use Rattle.wsm_query.specs.Seen.{seen_budget, seen_expr};
+ghost use Rattle.wsm_query.specs.Seen.{seen_expr};
 
 use crate::expr::Expr;
 use crate::print_expr::expr;
@@ -147,7 +147,7 @@ fn lateness(text: &mut Vec<u8>, value: i64, from_window: bool) -> Result<(), All
 /// Adds the clause of a stated budget, where there is one.
 #[tactic(auto, using(crate::proofs::Written::parts))]
 pub fn budget(text: &mut Vec<u8>, budget: Option<Budget>) -> Result<(), AllocError>
-    ensures { OnOk result (text.new.items ≡ adds text.old.items (budget_tokens (option_map seen_budget budget))) }
+    ensures { OnOk result (text.new.items ≡ adds text.old.items (budget_tokens budget)) }
 {
     let Some(stated) = budget else {
         return Ok(());

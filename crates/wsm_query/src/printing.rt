@@ -1,17 +1,16 @@
 //! The text of a whole query.
 
-ghost use Rattle.std.specs.Prelude.{◌≡◌, ◌∷◌, ◌++◌, [], codes, map, IfOk, OnOk};
+ghost use Rattle.std.specs.Prelude.{◌≡◌, ◌∷◌, ◌++◌, codes, map, IfOk, OnOk};
 ghost use Rattle.wsm_tokens.specs.Tokens.{Word};
 ghost use Rattle.wsm_query.specs.Adds.{adds};
-ghost use Rattle.wsm_query.specs.Print as rule;
-ghost use Rattle.wsm_query.specs.Print.{clause_tokens, condition_tokens, every_tokens, expr_tokens, print, shape_tokens, with_commas};
+ghost use Rattle.wsm_query.specs.Print.{condition_tokens, expr_tokens, output_tokens, print, with_commas};
 ghost use Rattle.wsm_query.specs.Seen.{seen};
 
 use crate::print_clauses::{
     budget, clock, columns, condition, every, fields, form_word, mode_word, names, shape, sources,
 };
 use crate::print_tokens::{sign, word};
-use crate::query::Query;
+use crate::query::{Output, Query};
 use std::alloc::{AllocError, Global};
 use wsm_tokens::Sign;
 
@@ -29,7 +28,7 @@ pub fn print(alloc: Global, query: &Query) -> Result<Vec<u8>, AllocError>
     clock(&mut text, query.clock)?;
     budget(&mut text, query.budget)?;
     selection(&mut text, query)?;
-    output(&mut text, query)?;
+    output(&mut text, query.output)?;
     Ok(text)
 }
 
@@ -48,17 +47,15 @@ fn selection(text: &mut Vec<u8>, query: &Query) -> Result<(), AllocError>
 
 // The windows, when they fire, and what is written of them.
 #[tactic(auto, using(crate::proofs::Written::parts))]
-fn output(text: &mut Vec<u8>, query: &Query) -> Result<(), AllocError>
-    ensures { OnOk result (text.new.items ≡ adds text.old.items
-        (Word (codes "WINDOW") ∷ shape_tokens query.now.shape ++ Word (rule.mode_word query.now.mode) ∷ every_tokens (codes "EARLY") query.now.early
-        ++ every_tokens (codes "LATE") query.now.late ++ clause_tokens (codes "EMIT") (Word (rule.form_word query.now.form) ∷ []))) }
+fn output(text: &mut Vec<u8>, output: Output) -> Result<(), AllocError>
+    ensures { OnOk result (text.new.items ≡ adds text.old.items (output_tokens output)) }
 {
     word(text, b"WINDOW")?;
-    shape(text, query.shape)?;
-    word(text, mode_word(query.mode))?;
-    every(text, b"EARLY", query.early)?;
-    every(text, b"LATE", query.late)?;
+    shape(text, output.shape)?;
+    word(text, mode_word(output.mode))?;
+    every(text, b"EARLY", output.early)?;
+    every(text, b"LATE", output.late)?;
     word(text, b"EMIT")?;
-    word(text, form_word(query.form))?;
+    word(text, form_word(output.form))?;
     sign(text, Sign::Semicolon)
 }

@@ -16,7 +16,22 @@ pub struct Budget {
     pub held: i64,
 }
 
-/// A query, with a field for each clause.
+/// The windows of a query, when they fire, and what is written of them.
+#[derive(Clone, Copy)]
+pub struct Output {
+    /// How event time is cut into windows.
+    pub shape: Shape,
+    /// What a firing's columns are computed over.
+    pub mode: Mode,
+    /// After how many unshown records a pane fires early.
+    pub early: Option<i64>,
+    /// After how many unshown records a pane fires late.
+    pub late: Option<i64>,
+    /// What is written.
+    pub form: Form,
+}
+
+/// A query, by its clauses.
 #[derive(Drop)]
 pub struct Query {
     /// The keys that records are grouped by, in the order of their clause.
@@ -35,14 +50,6 @@ pub struct Query {
     pub condition: Option<Expr>,
     /// HAVING: which panes are shown.
     pub having: Option<Expr>,
-    /// How event time is cut into windows.
-    pub shape: Shape,
-    /// What a firing's columns are computed over.
-    pub mode: Mode,
-    /// After how many unshown records a pane fires early.
-    pub early: Option<i64>,
-    /// After how many unshown records a pane fires late.
-    pub late: Option<i64>,
-    /// What is written.
-    pub form: Form,
+    /// The windows, when they fire, and what is written of them: the clauses from WINDOW to EMIT.
+    pub output: Output,
 }

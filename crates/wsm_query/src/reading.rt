@@ -5,14 +5,14 @@ ghost use Rattle.wsm_tokens.specs.Read.{Gives};
 ghost use Rattle.wsm_query.specs.Grammar as rule;
 ghost use Rattle.wsm_query.specs.Parse.{Parses, parse, query_text, to_end};
 ghost use Rattle.wsm_query.specs.Print.{print};
-ghost use Rattle.wsm_query.specs.Seen.{seen, seen_budget, seen_expr, seen_selection};
+ghost use Rattle.wsm_query.specs.Seen.{seen, seen_expr, seen_selection};
 
 use crate::clauses::{budget, clock, columns, every, fields, form, mode, names, shape, sources};
 use crate::expr::Expr;
 use crate::parse_expr::boxed_expression;
-use crate::query::{Budget, Query};
+use crate::query::{Budget, Output, Query};
 use std::alloc::Global;
-use wsm_record::{Form, Mode, Name};
+use wsm_record::{Form, Name};
 use wsm_tokens::{ParseRefusal, Reader, Stop, refusal_of};
 use wsm_windows::Shape;
 
@@ -23,16 +23,6 @@ struct Selected {
     // In boxes, which are let go in one step each where what follows is refused.
     condition: Option<Box<Expr>>,
     having: Option<Box<Expr>>,
-}
-
-// The windows, when they fire, and what is written of them.
-#[derive(Clone, Copy)]
-struct Written {
-    shape: Shape,
-    mode: Mode,
-    early: Option<i64>,
-    late: Option<i64>,
-    form: Form,
 }
 
 /// The tree of a query text, or the first fault from the left with its position. The text that a query is printed as has
@@ -76,16 +66,12 @@ fn query_text(alloc: Global, reader: &mut Reader) -> Result<Query, Stop>
         columns: selection.columns,
         condition: unboxed(selection.condition),
         having: unboxed(selection.having),
-        shape: output.shape,
-        mode: output.mode,
-        early: output.early,
-        late: output.late,
-        form: output.form,
+        output,
     })
 }
 
 // What is last in a query, and the end of the text.
-fn last(reader: &mut Reader) -> Result<Written, Stop>
+fn last(reader: &mut Reader) -> Result<Output, Stop>
     ensures { Gives (λ o. o) result reader.new (to_end rule.output reader.old) }
 {
     let output = output(reader)?;
@@ -137,7 +123,7 @@ fn select(alloc: Global, reader: &mut Reader) -> Result<Vec<Expr>, Stop>
 
 // "WINDOW" shape mode [ "EARLY" "EVERY" num ] [ "LATE" "EVERY" num ] "EMIT" form ";"
 #[tactic(auto, unfolding(crate::specs::Grammar::output))]
-fn output(reader: &mut Reader) -> Result<Written, Stop>
+fn output(reader: &mut Reader) -> Result<Output, Stop>
     ensures { Gives (λ o. o) result reader.new (rule.output reader.old) }
 {
     let shape = window(reader)?;
@@ -145,7 +131,7 @@ fn output(reader: &mut Reader) -> Result<Written, Stop>
     let early = optional_every(reader, b"EARLY")?;
     let late = optional_every(reader, b"LATE")?;
     let form = emitted(reader)?;
-    Ok(Written {
+    Ok(Output {
         shape,
         mode,
         early,
@@ -174,7 +160,7 @@ fn emitted(reader: &mut Reader) -> Result<Form, Stop>
 
 // [ "BUDGET" .. ";" ]
 fn optional_budget(reader: &mut Reader) -> Result<Option<Budget>, Stop>
-    ensures { Gives (option_map seen_budget) result reader.new (rule.optional (codes "BUDGET") rule.budget reader.old) }
+    ensures { Gives (λ o. o) result reader.new (rule.optional (codes "BUDGET") rule.budget reader.old) }
 {
     if !reader.begins(b"BUDGET") {
         return Ok(None);

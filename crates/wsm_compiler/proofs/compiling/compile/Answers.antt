@@ -1,8 +1,7 @@
 use Rattle.std.proofs.Common.{◌≡◌, ap, sym, ◌∙◌, subst}
-use Rattle.std.specs.Prelude.{IfOk, option_map}
+use Rattle.std.specs.Prelude.{IfOk}
 use Rattle.wsm_program.specs.Program.{Program, is_budget}
 use Rattle.wsm_rules.specs.Costs.{needed}
-use Rattle.wsm_query.specs.Seen.{seen_budget}
 use Rattle.wsm_check.specs.Seen.{seen_parts}
 use Rattle.wsm_compiler.specs.Program.{assembled, stated}
 use Rattle.wsm_compiler.specs.declared.compiling.TheConstants.{LEAST}
@@ -13,20 +12,17 @@ pub program-requires : goal.program-requires
 program-requires c =
     let p = seen_parts c.args.checked.parts in
     let need = needed (assembled p LEAST) in
-    let some = ap (option_map seen_budget) c.in-Some.is in
-    ap is_budget (c.stated.ensures need ∙ ap (stated need) (sym some)) ∙ is_budget_of p c.args.checked.of_checked LEAST
+    ap is_budget (c.stated.ensures need ∙ ap (stated need) (sym c.in-Some.is)) ∙ is_budget_of p c.args.checked.of_checked LEAST
 
 pub returns-in-Some : goal.returns-in-Some
 returns-in-Some c =
     let p = seen_parts c.args.checked.parts in
     let need = needed (assembled p LEAST) in
-    let some = ap (option_map seen_budget) c.in-Some.is in
-    let same = ap (assembled p) (c.stated.ensures need ∙ ap (stated need) (sym some)) in
+    let same = ap (assembled p) (c.stated.ensures need ∙ ap (stated need) (sym c.in-Some.is)) in
     λ q is. subst (λ (r : Program). IfOk c.program.result (λ made. made ≡ r)) (same ∙ compiled p LEAST q is) c.program.ensures
 
 pub returns-in-None : goal.returns-in-None
 returns-in-None c =
     let p = seen_parts c.args.checked.parts in
-    let none = ap (option_map seen_budget) c.in-None.is in
-    let same = ap (λ budget. assembled p (stated (needed (assembled p LEAST)) budget)) (sym none) in
+    let same = ap (λ budget. assembled p (stated (needed (assembled p LEAST)) budget)) (sym c.in-None.is) in
     λ q is. subst (λ (r : Program). IfOk c.program_with_need.result (λ made. made ≡ r)) (same ∙ compiled p LEAST q is) c.program_with_need.ensures

@@ -1,8 +1,6 @@
 use Rattle.std.proofs.Common.{ap, sym, ◌∙◌, None}
-use Rattle.std.specs.Prelude.{option_map}
 use Rattle.wsm_program.specs.Program.{is_budget}
 use Rattle.wsm_rules.specs.Costs.{needed}
-use Rattle.wsm_query.specs.Seen.{seen_budget}
 use Rattle.wsm_check.specs.Seen.{seen_parts}
 use Rattle.wsm_compiler.specs.Program.{assembled, stated}
 use Rattle.wsm_compiler.specs.declared.compiling.TheConstants.{LEAST}
@@ -13,5 +11,4 @@ pub stating-requires : goal.stating-requires
 stating-requires c =
     let p = seen_parts c.args.checked.parts in
     let need = c.in_ok-need.ensures.numbers ∙ ap needed c.in_ok-program.ensures in
-    let none = ap (option_map seen_budget) c.requires in
-    ap (λ costs. is_budget (stated costs None)) need ∙ ap (λ budget. is_budget (stated (needed (assembled p LEAST)) budget)) (sym none) ∙ is_budget_of p c.args.checked.of_checked LEAST
+    ap (λ costs. is_budget (stated costs None)) need ∙ ap (λ budget. is_budget (stated (needed (assembled p LEAST)) budget)) (sym c.requires) ∙ is_budget_of p c.args.checked.of_checked LEAST
