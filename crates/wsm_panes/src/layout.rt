@@ -1,6 +1,7 @@
 //! Panes in slots.
 
 ghost use Rattle.std.specs.Prelude.{◌≡◌, ◌<◌, ◌≤◌, ◌^◌, List, Some, None, true, IfOk, IfSome, IsTrue, length, option_map, replicate, slice_get};
+ghost use Rattle.std.specs.Box.{boxed_slice_items};
 ghost use Rattle.std.specs.Option.{is_some};
 ghost use Rattle.wsm_record.specs.declared.words.Kind.{Kind as OneKind};
 ghost use Rattle.wsm_record.specs.declared.limits.TheConstants.{MAX_ACCUMULATORS, MAX_COLUMNS};
@@ -15,6 +16,7 @@ use crate::row_words::{RowWords, write_cells};
 use crate::view::{PaneView, RowView};
 use crate::widths::Widths;
 use std::alloc::{AllocError, Global};
+use std::boxed::BoxedSlice;
 use std::marker::Model;
 use wsm_fold::fold_into;
 use wsm_record::{Cell, Columns, Kind, Mode, Value};
@@ -25,18 +27,20 @@ const NO_WINDOW: Window = Window { start: 0, end: 0 };
 
 /// Slots, each of which is free or has a place with its pane. The values of all panes lie beside one
 /// another, as many for each as it has accumulators, and so do the words of their rows, as many as it
-/// has columns, and the windows of what stands, where they are kept. A clause sees the entries.
+/// has columns, and the windows of what stands, where they are kept. A boxed slice can't grow, so no
+/// slot takes memory once they are open. A clause sees the entries.
 #[derive(Drop)]
 pub(crate) struct Slots {
     widths: Widths,
-    heads: Vec<Head>,
-    folds: Vec<Value>,
-    words: Vec<i64>,
+    heads: BoxedSlice<Head>,
+    folds: BoxedSlice<Value>,
+    words: BoxedSlice<i64>,
     // Of each slot, where windows are kept, and else none.
-    windows: Vec<Window>,
+    windows: BoxedSlice<Window>,
 }
 
 impl Model for Slots {
+    ghost use Rattle.std.specs.Box.{boxed_slice_items};
     ghost use Rattle.wsm_panes.specs.Layout.{IsLaidOut, Slotted, entries_by};
 
     ghost Value = { Slotted };
@@ -44,10 +48,10 @@ impl Model for Slots {
     ghost view = { λ a. record {
       widths = a.widths;
       slots =
-          entries_by a.widths.accumulators a.widths.columns a.heads.items a.folds.items a.words.items a.windows.items;
+          entries_by a.widths.accumulators a.widths.columns (boxed_slice_items a.heads) (boxed_slice_items a.folds) (boxed_slice_items a.words) (boxed_slice_items a.windows);
     } };
 
-    ghost invariant = { λ a. IsLaidOut a.widths a.heads.items a.folds.items a.words.items a.windows.items };
+    ghost invariant = { λ a. IsLaidOut a.widths (boxed_slice_items a.heads) (boxed_slice_items a.folds) (boxed_slice_items a.words) (boxed_slice_items a.windows) };
 }
 
 impl Slots {
@@ -312,13 +316,13 @@ fn write_over(values: &mut [Value], others: &[Value])
     values.copy_from_slice(others);
 }
 
-// A vector of so many copies of a value.
-fn copies<T: Copy>(alloc: Global, value: T, count: usize) -> Result<Vec<T>, AllocError>
-    ensures { IfOk result (λ v. v.items ≡ replicate count value) }
+// So many copies of a value, which stay as many.
+fn copies<T: Copy>(alloc: Global, value: T, count: usize) -> Result<BoxedSlice<T>, AllocError>
+    ensures { IfOk result (λ s. boxed_slice_items s ≡ replicate count value) }
 {
     let mut values = Vec::with_capacity(alloc, count)?;
     for _ in 0..count {
         values.push_reserved(value);
     }
-    Ok(values)
+    Ok(values.into_boxed_slice())
 }

@@ -14,7 +14,7 @@ use Rattle.wsm_panes.proofs.layout.Slots.fire.Goals as goal
 pub index_mut-head-requires : goal.index_mut-head-requires
 index_mut-head-requires c =
     let a = c.self.inside in
-    omega (arith, slot_within a.widths.accumulators a.widths.columns a.heads.items a.folds.items a.words.items a.windows.items c.args.slot (rw (← c.self.view_is) at c.requires.slot), a.heads.ok.0)
+    omega (arith, slot_within a.widths.accumulators a.widths.columns a.heads.items.items a.folds.items.items a.words.items.items a.windows.items.items c.args.slot (rw (← c.self.view_is) at c.requires.slot), a.heads.items.ok.0)
 
 pub write_row-kinds-requires-clause-few : goal.write_row-kinds-requires-clause-few
 write_row-kinds-requires-clause-few c =
@@ -27,17 +27,17 @@ pub write_row-kinds-requires-clause-part : goal.write_row-kinds-requires-clause-
 write_row-kinds-requires-clause-part c =
     let a = c.self.inside in
     let n = a.widths.columns in
-    let rs = a.words.items in let i = c.args.slot in
+    let rs = a.words.items.items in let i = c.args.slot in
     let row : Option (List Cell) = option_map (λ cells. cells.now) c.args.row in
-    let within = slot_within a.widths.accumulators n a.heads.items a.folds.items rs a.windows.items i (rw (← c.self.view_is) at c.requires.slot) in
+    let within = slot_within a.widths.accumulators n a.heads.items.items a.folds.items.items rs a.windows.items.items i (rw (← c.self.view_is) at c.requires.slot) in
     let wide : IfSome row (λ ys. length ys ≡ n) = of_mapped (λ cells. cells.now) (λ ys. length ys ≡ n) c.args.row (rw (← c.self.view_is) at c.requires.wide) in
-    rw c.deref_mut.ensures.value (if_mapped (λ cells. cells.now) (λ ys. HasPart i (length ys) rs) c.args.row (has_any i n rs row (has_row a.widths a.heads.items a.folds.items rs a.windows.items c.self.invariant i within) wide))
+    rw c.deref_mut.ensures.value (if_mapped (λ cells. cells.now) (λ ys. HasPart i (length ys) rs) c.args.row (has_any i n rs row (has_row a.widths a.heads.items.items a.folds.items.items rs a.windows.items.items c.self.invariant i within) wide))
 
 pub returns : goal.returns
 returns c =
     let a = c.self.inside in
     let w = a.widths.accumulators in let n = a.widths.columns in
-    let hs = a.heads.items in let fs = a.folds.items in let rs = a.words.items in let ws = a.windows.items in
+    let hs = a.heads.items.items in let fs = a.folds.items.items in let rs = a.words.items.items in let ws = a.windows.items.items in
     let i = c.args.slot in let h = c.index_mut-head.result.now in
     let row : Option (List Cell) = option_map (λ cells. cells.now) c.args.row in
     let kinds = c.write_row-kinds.result in
@@ -46,13 +46,13 @@ returns c =
     let ends = part_ends i n rs (has_row a.widths hs fs rs ws c.self.invariant i within) in
     let ys = c.write_row-kinds.new.words in
     let written = written_row i n rs ys kinds ends row wide (subst (λ xs. IsWritten i row xs ys kinds) c.deref_mut.ensures.value c.write_row-kinds.ensures) in
-    let items = with_items_is a.words ys (omega (arith, length-written i n rs ys kinds ends row written, a.words.ok.0)) in
+    let items = with_items_is a.words.items ys (omega (arith, length-written i n rs ys kinds ends row written, a.words.items.ok.0)) in
     let has : c.is_some.result ≡ is_some row = c.is_some.ensures ∙ some_mapped (λ cells. cells.now) c.args.row in
     let head : c.fire.new.self ≡ head_fired c.args.mode (is_some row) kinds h = c.fire.ensures ∙ ap (λ b. head_fired c.args.mode b kinds h) has in
     let its : c.window-window.result ≡ window_of (place_by h) = c.window-window.ensures ∙ ap window_of (c.place.ensures ∙ ap place_by head) in
     let window : c.write_window.new.windows ≡ with_window i ws (Some (window_of (place_by h))) =
     c.write_window.ensures ∙ (λ k. with_window i (c.deref_mut-2.ensures.value k) (Some (its k))) in
-    let window_items = with_items_is a.windows c.write_window.new.windows (omega (arith, ap length window, length-with_window i ws (Some (window_of (place_by h))), a.windows.ok.0)) ∙ window in
+    let window_items = with_items_is a.windows.items c.write_window.new.windows (omega (arith, ap length window, length-with_window i ws (Some (window_of (place_by h))), a.windows.items.ok.0)) ∙ window in
     let kept : a.widths.windows ≡ retracts c.args.mode = rw (← c.self.view_is) at c.requires.windows in
     let slots = (λ k. entries_by w n (set hs i (head k)) fs (items k) (window_items k))
     ∙ set_fired a.widths hs fs rs ws c.self.invariant i within c.args.mode h kept row kinds ys written

@@ -7,13 +7,13 @@ use Rattle.wsm_panes.proofs.layout.Slots.move_to.Goals as goal
 pub index_mut-requires : goal.index_mut-requires
 index_mut-requires c =
     let a = c.self.inside in
-    omega (arith, rw (← c.self.view_is) at c.requires, a.heads.ok.0, length-entries a.widths.accumulators a.widths.columns a.heads.items a.folds.items a.words.items a.windows.items)
+    omega (arith, rw (← c.self.view_is) at c.requires, a.heads.items.ok.0, length-entries a.widths.accumulators a.widths.columns a.heads.items.items a.folds.items.items a.words.items.items a.windows.items.items)
 
 pub returns : goal.returns
 returns c =
     let a = c.self.inside in
     let w = a.widths.accumulators in let n = a.widths.columns in
-    let hs = a.heads.items in let fs = a.folds.items in let rs = a.words.items in let ws = a.windows.items in
+    let hs = a.heads.items.items in let fs = a.folds.items.items in let rs = a.words.items.items in let ws = a.windows.items.items in
     let i = c.args.slot in let h = c.index_mut.result.now in
     let within : i < length hs = omega (arith, rw (← c.self.view_is) at c.requires, length-entries w n hs fs rs ws) in
     let slots = set_head a.widths hs fs rs ws c.self.invariant i within c.move_to.new.self

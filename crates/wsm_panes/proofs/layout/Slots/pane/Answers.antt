@@ -10,23 +10,23 @@ use Rattle.wsm_panes.proofs.layout.Slots.pane.Goals as goal
 pub index-head-requires : goal.index-head-requires
 index-head-requires c =
     let a = c.self.inside in
-    omega (arith, slot_held a.widths.accumulators a.widths.columns a.heads.items a.folds.items a.words.items a.windows.items c.args.slot (rw (← c.self.view_is) at c.requires), a.heads.ok.0)
+    omega (arith, slot_held a.widths.accumulators a.widths.columns a.heads.items.items a.folds.items.items a.words.items.items a.windows.items.items c.args.slot (rw (← c.self.view_is) at c.requires), a.heads.items.ok.0)
 
 pub part-requires : goal.part-requires
 part-requires c =
     let a = c.self.inside in
-    rw c.deref.ensures.value (has_folds a.widths a.heads.items a.folds.items a.words.items a.windows.items c.self.invariant c.args.slot (slot_held a.widths.accumulators a.widths.columns a.heads.items a.folds.items a.words.items a.windows.items c.args.slot (rw (← c.self.view_is) at c.requires)))
+    rw c.deref.ensures.value (has_folds a.widths a.heads.items.items a.folds.items.items a.words.items.items a.windows.items.items c.self.invariant c.args.slot (slot_held a.widths.accumulators a.widths.columns a.heads.items.items a.folds.items.items a.words.items.items a.windows.items.items c.args.slot (rw (← c.self.view_is) at c.requires)))
 
 pub part-requires-2 : goal.part-requires-2
 part-requires-2 c =
     let a = c.self.inside in
-    rw c.deref-2.ensures.value (has_row a.widths a.heads.items a.folds.items a.words.items a.windows.items c.self.invariant c.args.slot (slot_held a.widths.accumulators a.widths.columns a.heads.items a.folds.items a.words.items a.windows.items c.args.slot (rw (← c.self.view_is) at c.requires)))
+    rw c.deref-2.ensures.value (has_row a.widths a.heads.items.items a.folds.items.items a.words.items.items a.windows.items.items c.self.invariant c.args.slot (slot_held a.widths.accumulators a.widths.columns a.heads.items.items a.folds.items.items a.words.items.items a.windows.items.items c.args.slot (rw (← c.self.view_is) at c.requires)))
 
 pub returns : goal.returns
 returns c =
     let a = c.self.inside in
     let w = a.widths.accumulators in let n = a.widths.columns in
-    let hs = a.heads.items in let fs = a.folds.items in let rs = a.words.items in let ws = a.windows.items in
+    let hs = a.heads.items.items in let fs = a.folds.items.items in let rs = a.words.items.items in let ws = a.windows.items.items in
     let i = c.args.slot in let h = c.index-head.result.now in
     let some = rw (← c.self.view_is) at c.requires in
     let within = slot_held w n hs fs rs ws i some in

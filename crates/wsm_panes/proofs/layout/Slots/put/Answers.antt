@@ -11,13 +11,13 @@ use Rattle.wsm_panes.proofs.layout.Slots.put.Goals as goal
 pub index_mut-requires : goal.index_mut-requires
 index_mut-requires c =
     let a = c.self.inside in
-    omega (arith, slot_within a.widths.accumulators a.widths.columns a.heads.items a.folds.items a.words.items a.windows.items c.args.slot (rw (← c.self.view_is) at c.requires.slot), a.heads.ok.0)
+    omega (arith, slot_within a.widths.accumulators a.widths.columns a.heads.items.items a.folds.items.items a.words.items.items a.windows.items.items c.args.slot (rw (← c.self.view_is) at c.requires.slot), a.heads.items.ok.0)
 
 pub write_any-requires : goal.write_any-requires
 write_any-requires c =
     let a = c.self.inside in
     let w = a.widths.accumulators in
-    let hs = a.heads.items in let fs = a.folds.items in let rs = a.words.items in let ws = a.windows.items in
+    let hs = a.heads.items.items in let fs = a.folds.items.items in let rs = a.words.items.items in let ws = a.windows.items.items in
     let i = c.args.slot in let pane = c.args.pane.now in
     let within = slot_within w a.widths.columns hs fs rs ws i (rw (← c.self.view_is) at c.requires.slot) in
     let wide : IsAsWide a.widths pane = rw (← c.self.view_is) at c.requires.wide in
@@ -36,7 +36,7 @@ pub write_row-kinds-requires-clause-part : goal.write_row-kinds-requires-clause-
 write_row-kinds-requires-clause-part c =
     let a = c.self.inside in
     let n = a.widths.columns in
-    let hs = a.heads.items in let fs = a.folds.items in let rs = a.words.items in let ws = a.windows.items in
+    let hs = a.heads.items.items in let fs = a.folds.items.items in let rs = a.words.items.items in let ws = a.windows.items.items in
     let i = c.args.slot in let pane = c.args.pane.now in
     let within = slot_within a.widths.accumulators n hs fs rs ws i (rw (← c.self.view_is) at c.requires.slot) in
     let wide : IsAsWide a.widths pane = rw (← c.self.view_is) at c.requires.wide in
@@ -47,7 +47,7 @@ pub returns : goal.returns
 returns c =
     let a = c.self.inside in
     let w = a.widths.accumulators in let n = a.widths.columns in
-    let hs = a.heads.items in let fs = a.folds.items in let rs = a.words.items in let ws = a.windows.items in
+    let hs = a.heads.items.items in let fs = a.folds.items.items in let rs = a.words.items.items in let ws = a.windows.items.items in
     let i = c.args.slot in let pane = c.args.pane.now in
     let row = standing_row pane.stands in
     let kinds = c.write_row-kinds.result in
@@ -61,10 +61,10 @@ returns c =
     let its = c.cells_of.ensures ∙ c.standing_row-row.ensures in
     let written = written_row i n rs ys kinds row_ends row wide.row
     (subst (λ xs. IsWritten i row xs ys kinds) c.deref_mut.ensures.value (subst (λ o. IsWritten i o c.deref_mut.result.now ys kinds) its c.write_row-kinds.ensures)) in
-    let fold_items = with_items_is a.folds c.write_any.new.values (omega (arith, ap length folds, length-with_any i w fs pane.folded fold_ends wide.folds, a.folds.ok.0)) ∙ folds in
-    let row_items = with_items_is a.words ys (omega (arith, length-written i n rs ys kinds row_ends row written, a.words.ok.0)) in
+    let fold_items = with_items_is a.folds.items c.write_any.new.values (omega (arith, ap length folds, length-with_any i w fs pane.folded fold_ends wide.folds, a.folds.items.ok.0)) ∙ folds in
+    let row_items = with_items_is a.words.items ys (omega (arith, length-written i n rs ys kinds row_ends row written, a.words.items.ok.0)) in
     let window : c.write_window.new.windows ≡ with_window i ws (window_stood pane.stands) =
     c.write_window.ensures ∙ ap (λ vs. with_window i vs c.window.result) c.deref_mut-3.ensures.value ∙ ap (with_window i ws) c.window.ensures in
-    let window_items = with_items_is a.windows c.write_window.new.windows (omega (arith, ap length window, length-with_window i ws (window_stood pane.stands), a.windows.ok.0)) ∙ window in
+    let window_items = with_items_is a.windows.items c.write_window.new.windows (omega (arith, ap length window, length-with_window i ws (window_stood pane.stands), a.windows.items.ok.0)) ∙ window in
     let slots = put_is a.widths hs fs rs ws c.self.invariant i within c.args.place pane wide kinds ys written c.of_pane.result _ _ _ c.of_pane.ensures fold_items row_items window_items in
     rw (← c.self.view_is) (λ k. record { widths = a.widths; slots = slots k })
