@@ -1,5 +1,6 @@
 -- What is kept of the panes that are held: the tables of a shape.
 use Rattle.std.specs.Prelude.{◌≡◌, ◌≢◌, ◌*◌, ◌≤◌, ℕ, ℤ, List, []}
+use Rattle.std.specs.Box.{boxed_slice_items}
 use Rattle.std.specs.FinMap as map
 use Rattle.wsm_record.specs.declared.event.Value.{Value}
 use Rattle.wsm_windows.specs.declared.window.Shape.{Shape}
@@ -38,7 +39,7 @@ pub record IsGrid (shape : Shape) (keys live : ℕ) (ring : RingState (Pane (Lis
   pub none : keys * live ≡ 0 → map.entries ring.panes ≡ []
 
 abbrev pub AreTables : Shape → ℕ → ℕ → Tables → Type 0
-AreTables shape keys live (Sessions list ss) = AreSessions shape keys live list ss.items
+AreTables shape keys live (Sessions list ss) = AreSessions shape keys live list (boxed_slice_items ss)
 AreTables shape keys live (Grid ring) = IsGrid shape keys live ring
 
 -- the tables are those of the shape

@@ -1,6 +1,7 @@
 //! The panes that are held.
 
 ghost use Rattle.std.specs.Prelude.{◌≡◌, ◌*◌, ◌<◌, ◌≤◌, ◌≤ℤ◌, ℤ, pos, [], length, IfOk, IfSome, IsSome, Some, int_lt, option_map, slice_get};
+ghost use Rattle.std.specs.Box.{boxed_slice_items};
 ghost use Rattle.std.specs.FinMap as map;
 ghost use Rattle.std.specs.FinMap.Entries.{find, put, where_key};
 ghost use Rattle.wsm_windows.specs.Windows.{IsShape, IsTime, greatest_span};
@@ -27,6 +28,7 @@ use crate::table::PaneTable;
 use crate::view::PaneView;
 use crate::widths::Widths;
 use std::alloc::{AllocError, Global};
+use std::boxed::BoxedSlice;
 use std::marker::Model;
 use wsm_record::limits::{MAX_ACCUMULATORS, MAX_COLUMNS, MAX_PANES};
 use wsm_record::{Cell, Kind, Mode, Value};
@@ -60,7 +62,7 @@ pub struct HeldPanes {
 #[derive(Drop)]
 enum Tables {
     // A list of those of sessions, and the sessions of each key.
-    Sessions(ListTable, Vec<Sessions>),
+    Sessions(ListTable, BoxedSlice<Sessions>),
     // A ring of those of windows on a grid.
     Grid(RingTable),
 }
@@ -360,16 +362,16 @@ fn no_sessions(
     keys: usize,
     gap: i64,
     live: usize,
-) -> Result<Vec<Sessions>, AllocError>
+) -> Result<BoxedSlice<Sessions>, AllocError>
     requires low { pos 1 ≤ℤ gap }
     requires high { gap ≤ℤ greatest_span }
-    ensures { IfOk result (λ v. AreOfKeys gap keys live [] v.items) }
+    ensures { IfOk result (λ s. AreOfKeys gap keys live [] (boxed_slice_items s)) }
 {
     let mut sessions = Vec::with_capacity(alloc, keys)?;
     for _ in 0..keys {
         sessions.push_reserved(Sessions::open(alloc, gap, live)?);
     }
-    Ok(sessions)
+    Ok(sessions.into_boxed_slice())
 }
 
 // What was noted of the sessions of a key, if there are any. It is a guess.
@@ -381,11 +383,11 @@ fn noted(sessions: &[Sessions], key: u16) -> usize {
 }
 
 // Drops the panes of sessions that end by a limit, and those sessions, if there are any.
-fn drop_from(list: &mut ListTable, sessions: &mut Vec<Sessions>, limit: i64)
+fn drop_from(list: &mut ListTable, sessions: &mut BoxedSlice<Sessions>, limit: i64)
     ensures panes { list.new.panes ≡ map.retain_keys list.old.panes (is_kept limit) }
     ensures room { list.new.room ≡ list.old.room }
     ensures widths { list.new.widths ≡ list.old.widths }
-    ensures sessions { StayOfKeys (map.entries list.old.panes) sessions.old.items (map.entries list.new.panes) sessions.new.items }
+    ensures sessions { StayOfKeys (map.entries list.old.panes) (boxed_slice_items sessions.old) (map.entries list.new.panes) (boxed_slice_items sessions.new) }
 {
     let count = list.len();
     list.drop_expired(limit);
@@ -395,8 +397,8 @@ fn drop_from(list: &mut ListTable, sessions: &mut Vec<Sessions>, limit: i64)
 }
 
 // Drops the sessions of each key that end by a limit.
-fn drop_sessions(sessions: &mut Vec<Sessions>, limit: i64)
-    ensures { AreDropped limit sessions.old.items sessions.new.items }
+fn drop_sessions(sessions: &mut BoxedSlice<Sessions>, limit: i64)
+    ensures { AreDropped limit (boxed_slice_items sessions.old) (boxed_slice_items sessions.new) }
 {
     for i in 0..sessions.len() {
         sessions[i].drop_expired(limit);

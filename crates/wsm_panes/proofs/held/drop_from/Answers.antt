@@ -13,8 +13,8 @@ returns-then-len-count-clause-sessions c gap keys live of =
     let limit : SFits w64 c.args.limit = c.ranges.limit in
     let m = c.args.list.now.panes in
     let left = ap map.entries (simp to_z-of_z at c.drop_expired.ensures.panes) ∙ entries_kept m (is_kept c.args.limit) in
-    subst (λ es. AreOfKeys gap keys live es c.drop_sessions.new.sessions.items) (sym left)
-    (keys_dropped c.args.limit gap keys live (map.entries m) c.args.sessions.now.items c.drop_sessions.new.sessions.items of (simp to_z-of_z at c.drop_sessions.ensures))
+    subst (λ es. AreOfKeys gap keys live es c.drop_sessions.new.sessions.items.items) (sym left)
+    (keys_dropped c.args.limit gap keys live (map.entries m) c.args.sessions.now.items.items c.drop_sessions.new.sessions.items.items of (simp to_z-of_z at c.drop_sessions.ensures))
 
 -- as many are left as there were, so all are
 pub returns-else-len-count-clause-sessions : goal.returns-else-len-count-clause-sessions
@@ -24,4 +24,4 @@ returns-else-len-count-clause-sessions c gap keys live of =
     let left = ap map.entries (simp to_z-of_z at c.drop_expired.ensures.panes) ∙ entries_kept m (is_kept c.args.limit) in
     let as_many : length (map.entries m) ≤ length (filter (λ e. is_kept c.args.limit e.0) (map.entries m)) =
     let old = c.len-count.ensures ∙ len-entries m in let new = c.len.ensures ∙ len-entries c.drop_expired.new.self.panes ∙ ap length left in omega (arith, old, new, c.if-len-count.false) in
-    subst (λ es. AreOfKeys gap keys live es c.args.sessions.now.items) (sym (left ∙ all_left (λ e. is_kept c.args.limit e.0) (map.entries m) as_many)) of
+    subst (λ es. AreOfKeys gap keys live es c.args.sessions.now.items.items) (sym (left ∙ all_left (λ e. is_kept c.args.limit e.0) (map.entries m) as_many)) of

@@ -38,6 +38,6 @@ returns-in_ok-no_sessions-in-Session-clause-tables c =
       shape_is = c.in-Session.is;
       room = ap (λ t. t.room) c.in_ok-open-in-Session.ensures;
       of_keys =
-          subst (λ es. AreOfKeys c.in-Session.gap c.args.keys c.args.live es c.in_ok-no_sessions-in-Session.field-0.items) (sym (ap (λ t. map.entries t.panes) c.in_ok-open-in-Session.ensures ∙ entries_none))
+          subst (λ es. AreOfKeys c.in-Session.gap c.args.keys c.args.live es c.in_ok-no_sessions-in-Session.field-0.items.items) (sym (ap (λ t. map.entries t.panes) c.in_ok-open-in-Session.ensures ∙ entries_none))
           (simp to_z-of_z at c.in_ok-no_sessions-in-Session.ensures);
     }

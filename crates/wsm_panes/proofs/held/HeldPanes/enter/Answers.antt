@@ -29,7 +29,7 @@ enter_session-joined-requires-clause-joins c =
     let time : SFits w64 c.args.time = c.ranges.time in
     let h = rw c.in-Sessions.is at c.self.invariant.tables in
     let can = rw (← c.self.view_is, c.in-Sessions.is, h.shape_is) at c.requires in
-    let of = key_of h.gap c.self.inside.keys c.self.inside.live c.args.key (map.entries c.in-Sessions.list.panes) c.in-Sessions.sessions.items h.of_keys can.declared c.index_mut-sessions.result.now c.index_mut-sessions.ensures.value in
+    let of = key_of h.gap c.self.inside.keys c.self.inside.live c.args.key (map.entries c.in-Sessions.list.panes) c.in-Sessions.sessions.items.items h.of_keys can.declared c.index_mut-sessions.result.now c.index_mut-sessions.ensures.value in
     simp to_z-of_z (rw of.same_gap (joins_can _ _ _ _ _ _ _ can h.gap refl))
 
 pub enter_session-joined-requires-clause-room : goal.enter_session-joined-requires-clause-room
@@ -37,7 +37,7 @@ enter_session-joined-requires-clause-room c =
     let time : SFits w64 c.args.time = c.ranges.time in
     let h = rw c.in-Sessions.is at c.self.invariant.tables in
     let can = rw (← c.self.view_is, c.in-Sessions.is, h.shape_is) at c.requires in
-    let of = key_of h.gap c.self.inside.keys c.self.inside.live c.args.key (map.entries c.in-Sessions.list.panes) c.in-Sessions.sessions.items h.of_keys can.declared c.index_mut-sessions.result.now c.index_mut-sessions.ensures.value in
+    let of = key_of h.gap c.self.inside.keys c.self.inside.live c.args.key (map.entries c.in-Sessions.list.panes) c.in-Sessions.sessions.items.items h.of_keys can.declared c.index_mut-sessions.result.now c.index_mut-sessions.ensures.value in
     simp to_z-of_z (rw (of.same_gap, h.room) (room_can _ _ _ _ _ _ _ can h.gap refl))
 
 pub enter_session-joined-requires-clause-live : goal.enter_session-joined-requires-clause-live
@@ -45,7 +45,7 @@ enter_session-joined-requires-clause-live c =
     let time : SFits w64 c.args.time = c.ranges.time in
     let h = rw c.in-Sessions.is at c.self.invariant.tables in
     let can = rw (← c.self.view_is, c.in-Sessions.is, h.shape_is) at c.requires in
-    let of = key_of h.gap c.self.inside.keys c.self.inside.live c.args.key (map.entries c.in-Sessions.list.panes) c.in-Sessions.sessions.items h.of_keys can.declared c.index_mut-sessions.result.now c.index_mut-sessions.ensures.value in
+    let of = key_of h.gap c.self.inside.keys c.self.inside.live c.args.key (map.entries c.in-Sessions.list.panes) c.in-Sessions.sessions.items.items h.of_keys can.declared c.index_mut-sessions.result.now c.index_mut-sessions.ensures.value in
     simp to_z-of_z (rw (of.same_gap, of.room) (live_can _ _ _ _ _ _ _ can h.gap refl))
 
 -- the live windows of a record, as those of the ring that end past a time
@@ -92,7 +92,7 @@ invariant_of-self c =
       | in-Sessions w ↦
           let h = rw w.in-Sessions.is at c.self.invariant.tables in
           let can = rw (← c.self.view_is) at c.requires in
-          let of = key_of h.gap c.self.inside.keys c.self.inside.live c.args.key (map.entries w.in-Sessions.list.panes) w.in-Sessions.sessions.items h.of_keys can.declared w.index_mut-sessions.result.now w.index_mut-sessions.ensures.value in
+          let of = key_of h.gap c.self.inside.keys c.self.inside.live c.args.key (map.entries w.in-Sessions.list.panes) w.in-Sessions.sessions.items.items h.of_keys can.declared w.index_mut-sessions.result.now w.index_mut-sessions.ensures.value in
           rw w.self-inside-is (record {
             shape = c.self.invariant.shape;
             tables = record {
@@ -100,7 +100,7 @@ invariant_of-self c =
               shape_is = h.shape_is;
               room = w.enter_session-joined.ensures.room ∙ h.room;
               of_keys =
-                  keys_written h.gap a.keys a.live c.args.key (map.entries w.in-Sessions.list.panes) (map.entries w.enter_session-joined.new.table.panes) w.in-Sessions.sessions.items w.enter_session-joined.new.sessions h.of_keys
+                  keys_written h.gap a.keys a.live c.args.key (map.entries w.in-Sessions.list.panes) (map.entries w.enter_session-joined.new.table.panes) w.in-Sessions.sessions.items.items w.enter_session-joined.new.sessions h.of_keys
                   (record {
                     same_gap = ap (λ s. s.gap) w.enter_session-joined.ensures.sessions ∙ of.same_gap;
                     room = ap (λ s. s.room) w.enter_session-joined.ensures.sessions ∙ of.room;
@@ -132,7 +132,7 @@ returns-clause-panes c =
       | in-Sessions w ↦
           let h = rw w.in-Sessions.is at c.self.invariant.tables in
           let can = rw (← c.self.view_is) at c.requires in
-          let of = key_of h.gap c.self.inside.keys c.self.inside.live c.args.key (map.entries w.in-Sessions.list.panes) w.in-Sessions.sessions.items h.of_keys can.declared w.index_mut-sessions.result.now w.index_mut-sessions.ensures.value in
+          let of = key_of h.gap c.self.inside.keys c.self.inside.live c.args.key (map.entries w.in-Sessions.list.panes) w.in-Sessions.sessions.items.items h.of_keys can.declared w.index_mut-sessions.result.now w.index_mut-sessions.ensures.value in
           rw (w.self-inside-is, ← c.self.view_is, w.in-Sessions.is, h.shape_is) (rw of.same_gap at (simp to_z-of_z at w.enter_session-joined.ensures.panes))
       | in-Grid w ↦
           let ring = w.in-Grid.ring in
@@ -187,7 +187,7 @@ returns-clause-joined c =
       | in-Sessions w ↦
           let h = rw w.in-Sessions.is at c.self.invariant.tables in
           let can = rw (← c.self.view_is) at c.requires in
-          let of = key_of h.gap c.self.inside.keys c.self.inside.live c.args.key (map.entries w.in-Sessions.list.panes) w.in-Sessions.sessions.items h.of_keys can.declared w.index_mut-sessions.result.now w.index_mut-sessions.ensures.value in
+          let of = key_of h.gap c.self.inside.keys c.self.inside.live c.args.key (map.entries w.in-Sessions.list.panes) w.in-Sessions.sessions.items.items h.of_keys can.declared w.index_mut-sessions.result.now w.index_mut-sessions.ensures.value in
           rw (w.result-is, ← c.self.view_is, w.in-Sessions.is, h.shape_is) (rw of.same_gap at (simp to_z-of_z at w.enter_session-joined.ensures.joined))
       | in-Grid w ↦
           let h = rw w.in-Grid.is at c.self.invariant.tables in
@@ -201,7 +201,7 @@ returns-clause-session c =
       | in-Sessions w ↦
           let h = rw w.in-Sessions.is at c.self.invariant.tables in
           let can = rw (← c.self.view_is) at c.requires in
-          let of = key_of h.gap c.self.inside.keys c.self.inside.live c.args.key (map.entries w.in-Sessions.list.panes) w.in-Sessions.sessions.items h.of_keys can.declared w.index_mut-sessions.result.now w.index_mut-sessions.ensures.value in
+          let of = key_of h.gap c.self.inside.keys c.self.inside.live c.args.key (map.entries w.in-Sessions.list.panes) w.in-Sessions.sessions.items.items h.of_keys can.declared w.index_mut-sessions.result.now w.index_mut-sessions.ensures.value in
           rw (w.result-is, ← c.self.view_is, w.in-Sessions.is, h.shape_is) (ap Some (w.rebuilt_window.ensures ∙ (rw of.same_gap at (simp to_z-of_z at w.enter_session-joined.ensures.session))))
       | in-Grid w ↦
           let h = rw w.in-Grid.is at c.self.invariant.tables in
