@@ -1,14 +1,15 @@
 //! The engine of a verified program.
 
-ghost use Rattle.std.specs.Prelude.{◌≡◌, ◌≤◌, List, [], length, Ok, IfOk, IfErr, IsTrue};
+ghost use Rattle.std.specs.Prelude.{◌≡◌, ◌≤◌, List, [], ◌∷◌, length, Ok, IfOk, IfErr, IsSome, IsTrue};
 ghost use Rattle.wsm_record.specs.Event.{Event as AnyEvent, event_of};
 ghost use Rattle.wsm_admission.specs.Clock.{fits_declared};
 ghost use Rattle.wsm_semantics.specs.Panes.{held};
+ghost use Rattle.wsm_semantics.specs.Relation.{turn_rows};
 ghost use Rattle.wsm_program.specs.Program.{is_program};
 ghost use Rattle.wsm_rules.specs.Costs.{needed};
 ghost use Rattle.wsm_rules.specs.Rules.{judge};
 ghost use Rattle.wsm_machine.specs.Meaning.{query_of};
-ghost use Rattle.wsm_engine.specs.Meaning.{Feeds, Fits, totals_of};
+ghost use Rattle.wsm_engine.specs.Meaning.{Feeds, Fits, IsRefused, reply_to, totals_of};
 ghost use Rattle.wsm_engine.specs.Turn.{turn, reply_by, refusal_of as spec_refusal_of};
 
 use crate::acting::act;
@@ -82,14 +83,22 @@ impl Engine {
     /// that its triggers or a watermark call for. The rows of the last event are gone. It takes no
     /// memory.
     pub fn feed(&mut self, event: &Event) -> Reply
-        ensures { Feeds self.old self.new (event_of event.now) result }
+        ensures program { self.new.program ≡ self.old.program }
+        ensures fits { (past : List AnyEvent) → Fits self.old past → Fits self.new (event_of event.now ∷ past) }
+        ensures reply { (past : List AnyEvent) → Fits self.old past → result ≡ reply_to self.old.program past (event_of event.now) }
+        ensures rows { (past : List AnyEvent) → Fits self.old past → self.new.rows ≡ turn_rows (query_of self.old.program) past (event_of event.now) }
+        ensures room { self.new.room ≡ self.old.room }
+        ensures refused { IsSome result.refusal → IsRefused self.old self.new }
+        ensures record_within { result.record_steps ≤ self.old.program.header.budget.per_record }
+        ensures pane_within { result.pane_steps_max ≤ self.old.program.header.budget.per_pane }
     {
         let values_fit = has_fitting_values(self.schema(), event);
         self.feed_judged(event, values_fit)
     }
 
-    /// Takes the next event, as [`feed`](Engine::feed) does, where whoever has read it knows whether
-    /// its values fit the program's schema: then no value is looked at to judge it.
+    /// Takes the next event, as [`feed`](Engine::feed) does and with all that its contract says, where
+    /// whoever has read it knows whether its values fit the program's schema: then no value is looked
+    /// at to judge it.
     pub fn feed_judged(&mut self, event: &Event, values_fit: bool) -> Reply
         requires { values_fit ≡ fits_declared self.old.program.header.schema (event_of event.now) }
         ensures { Feeds self.old self.new (event_of event.now) result }
