@@ -85,8 +85,8 @@ pub(crate) fn joined(session: Window, next: Window) -> Window
     }
 }
 
-/// How many windows end by a time, where those come first. Mostly they are all, or all but the newest.
-pub(crate) fn ended_by(windows: &TieredList<Window>, time: i64) -> usize
+// How many windows end by a time, where those come first. Mostly they are all, or all but the newest.
+fn ended_by(windows: &TieredList<Window>, time: i64) -> usize
     requires { IsPartitionedBy (ends_by time) windows.now.items }
     ensures count { result ≡ length (filter (ends_by time) windows.now.items) }
     ensures within { result ≤ length windows.now.items }
@@ -102,8 +102,8 @@ pub(crate) fn ended_by(windows: &TieredList<Window>, time: i64) -> usize
     }
 }
 
-// How many windows end by a time, where those come first, in whichever half they end.
-fn count_ended(windows: &TieredList<Window>, time: i64) -> usize
+/// How many windows end by a time, where those come first.
+pub(crate) fn count_ended(windows: &TieredList<Window>, time: i64) -> usize
     requires { IsPartitionedBy (ends_by time) windows.now.items }
     ensures count { result ≡ length (filter (ends_by time) windows.now.items) }
     ensures within { result ≤ length windows.now.items }

@@ -10,7 +10,7 @@ ghost use Rattle.wsm_sessions.specs.Live.{Fits, IsApart, times_left, IsOfTimes};
 ghost use Rattle.wsm_sessions.specs.Placing.{placed, those_linked, is_any_linked, joined_at};
 ghost use Rattle.wsm_sessions.specs.Placing as spec;
 
-use crate::linking::{alone, ended_by, extended, find, first_ends_by, joined, linked_at};
+use crate::linking::{alone, count_ended, extended, find, first_ends_by, joined, linked_at};
 use crate::placed::{Entry, Linked, Placed};
 use std::alloc::{AllocError, Global};
 use std::marker::Model;
@@ -208,7 +208,7 @@ fn keep_past(windows: &mut TieredList<Window>, limit: i64)
     ensures room { windows.new.room ≡ windows.old.room }
 {
     if first_ends_by(windows, limit) {
-        let count = ended_by(windows, limit);
+        let count = count_ended(windows, limit);
         windows.drop_first(count);
     }
 }

@@ -7,7 +7,7 @@ pub returns-then-first_ends_by-clause-items : goal.returns-then-first_ends_by-cl
 returns-then-first_ends_by-clause-items c =
     let fits : SFits w64 c.args.limit = c.ranges.limit in
     let ws = c.args.windows.now.items in
-    let count = simp to_z-of_z at c.ended_by-count.ensures.count in
+    let count = simp to_z-of_z at c.count_ended-count.ensures.count in
     c.drop_first.ensures.items ∙ ap (λ n. drop n ws) count ∙ sym (left_after c.args.limit ws c.requires)
 
 pub returns-else-first_ends_by-clause-items : goal.returns-else-first_ends_by-clause-items
