@@ -14,6 +14,7 @@ use wsm_tiers::TieredList;
 use wsm_windows::Window;
 
 /// What a time does to sessions: which it is linked to, and at what place.
+#[inline(always)]
 pub fn find(windows: &TieredList<Window>, gap: i64, time: i64) -> Placed
     requires gap_low { pos 1 ≤ℤ gap }
     requires gap_high { gap ≤ℤ greatest_span }
@@ -34,6 +35,7 @@ pub fn find(windows: &TieredList<Window>, gap: i64, time: i64) -> Placed
 }
 
 /// The sessions that a time is linked to, where it was found what it does to them.
+#[inline(always)]
 pub fn linked_at(windows: &TieredList<Window>, gap: i64, time: i64, found: Placed) -> Linked
     requires gap_low { pos 1 ≤ℤ gap }
     requires time { IsTime time }
@@ -86,6 +88,7 @@ pub(crate) fn joined(session: Window, next: Window) -> Window
 }
 
 // How many windows end by a time, where those come first. Mostly they are all, or all but the newest.
+#[inline(always)]
 fn ended_by(windows: &TieredList<Window>, time: i64) -> usize
     requires { IsPartitionedBy (ends_by time) windows.now.items }
     ensures count { result ≡ length (filter (ends_by time) windows.now.items) }
@@ -103,6 +106,7 @@ fn ended_by(windows: &TieredList<Window>, time: i64) -> usize
 }
 
 /// How many windows end by a time, where those come first.
+#[inline(never)]
 pub(crate) fn count_ended(windows: &TieredList<Window>, time: i64) -> usize
     requires { IsPartitionedBy (ends_by time) windows.now.items }
     ensures count { result ≡ length (filter (ends_by time) windows.now.items) }
@@ -122,6 +126,7 @@ pub(crate) fn count_ended(windows: &TieredList<Window>, time: i64) -> usize
 }
 
 // Whether the window in front of a place ends by a time, if there is one.
+#[inline(always)]
 fn is_ended_at(windows: &TieredList<Window>, place: usize, time: i64) -> bool
     requires { place ≤ length windows.now.items }
     ensures { result ≡ spec.is_ended_at time windows.now.items place }
@@ -137,6 +142,7 @@ fn ends_by(window: Window, time: i64) -> bool
 }
 
 // Whether there is a window at a place, and it starts before a time.
+#[inline(always)]
 fn starts_before(windows: &TieredList<Window>, i: usize, time: i64) -> bool
     ensures { result ≡ spec.starts_before time windows.now.items i }
 {

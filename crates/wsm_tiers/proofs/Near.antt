@@ -35,7 +35,7 @@ module _ {T : Type 0} (room count : ℕ) (near : List T) (capacity : ℕ) (far :
     left_long : length (drop TIER far.items) ≡ length far.items - TIER
     left_long = length-drop TIER far.items
 
-    pub poured : (next : List T) (wider : ℕ) (left : Listed T) → next ≡ take TIER far.items → capacity ≤ wider → left.items ≡ drop TIER far.items → left.room ≡ far.room
+    pub poured : (next : List T) (wider : ℕ) (left : Listed T) → next ≡ take TIER far.items → wider ≡ capacity → left.items ≡ drop TIER far.items → left.room ≡ far.room
         → IsNearFirst room (count - TIER) next wider left
     poured next wider left is wide items same =
         let near_long = ap length is ∙ poured_long in

@@ -7,7 +7,7 @@ use Rattle.wsm_tiers.specs.declared.far.TheConstants.{TIER}
 pub record IsNearFirst {T : Type 0} (room count : ℕ) (near : List T) (capacity : ℕ) (far : Listed T) : Type 0 where
   pub few : length near ≤ TIER
   pub full : length near < TIER → length far.items ≡ 0
-  pub wide : min room TIER ≤ capacity
+  pub wide : capacity ≡ min room TIER
   pub rest : far.room ≡ room - TIER
   pub counted : count ≡ length near + length far.items
   pub within : count ≤ room

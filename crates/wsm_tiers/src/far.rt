@@ -63,6 +63,8 @@ impl<T: Copy + Drop> Far<T> {
 
     /// The item of a number.
     #[inline(never)]
+    #[cold]
+    #[inline(never)]
     pub(crate) fn get(&self, at: usize) -> T
         requires { at < length self.now.items }
         ensures { slice_get self.now.items at ≡ Some result }
@@ -96,6 +98,8 @@ impl<T: Copy + Drop> Far<T> {
     }
 
     /// Has another item stand at a number.
+    #[inline(never)]
+    #[cold]
     #[inline(never)]
     pub(crate) fn set(&mut self, at: usize, item: T)
         requires { at < length self.old.items }

@@ -68,6 +68,7 @@ impl<T: Copy + Drop> TieredList<T> {
     }
 
     /// The item of a number.
+    #[inline(always)]
     pub fn get(&self, at: usize) -> T
         requires { at < length self.now.items }
         ensures { slice_get self.now.items at ≡ Some result }
@@ -80,6 +81,7 @@ impl<T: Copy + Drop> TieredList<T> {
     }
 
     /// The items, where no more are there than lie in a row.
+    #[inline(always)]
     pub fn as_row(&self) -> Option<&[T]>
         ensures { IfSome result (λ row. row.now ≡ self.now.items) }
     {
@@ -91,6 +93,7 @@ impl<T: Copy + Drop> TieredList<T> {
     }
 
     /// Puts an item in front of the one of a number, and of those behind it.
+    #[inline(never)]
     pub fn insert(&mut self, at: usize, item: T)
         requires at { at ≤ length self.old.items }
         requires room { length self.old.items < self.old.room }
@@ -110,6 +113,7 @@ impl<T: Copy + Drop> TieredList<T> {
     }
 
     /// Takes the item of a number out.
+    #[inline(never)]
     pub fn remove(&mut self, at: usize) -> T
         requires { at < length self.old.items }
         ensures item { slice_get self.old.items at ≡ Some result }
@@ -129,6 +133,7 @@ impl<T: Copy + Drop> TieredList<T> {
     }
 
     /// Has another item stand at a number.
+    #[inline(always)]
     pub fn set(&mut self, at: usize, item: T)
         requires { at < length self.old.items }
         ensures items { self.new.items ≡ set self.old.items at item }
