@@ -1,5 +1,5 @@
 -- What holds of each part, where the parts are gone through one by one.
-use Rattle.std.proofs.Common.{◌≡◌, ◌≢◌, ◌+◌, ◌<◌, ◌≤◌, ◌∷◌, ◌++◌, [], ℕ, List, Option, Some, refl, sym, subst, inl, inr, arith, length}
+use Rattle.std.proofs.Common.{◌≡◌, ◌≢◌, ◌+◌, ◌<◌, ◌≤◌, ◌∷◌, ◌++◌, [], ℕ, List, Option, Some, refl, sym, subst, inl, inr, arith, length, Bool, true}
 use Rattle.std.specs.Prelude.{slice_get, slice_set}
 use Rattle.std.specs.Io.KnownBytes.{Appends}
 use Rattle.std.proofs.lemmas.Bool.{cases_lt, eq-eqb, ne_eqb}
@@ -7,9 +7,9 @@ use Rattle.std.proofs.lemmas.Option.{slice_get_within}
 use Rattle.wsm_csv.specs.Device.{TakesPart}
 use Rattle.wsm_csv.proofs.Written.{TakesPart-all}
 use Rattle.wsm_deal.specs.PartText.{part_text}
-use Rattle.wsm_deal.specs.Parts.{Befores, Hands, Has, one_more_for}
+use Rattle.wsm_deal.specs.Parts.{Befores, Hands, Has, SomeFailed, one_more_for}
 use Rattle.wsm_deal.specs.declared.part.Part.{Part}
-use Rattle.wsm_deal.proofs.Lists.{at_set}
+use Rattle.wsm_deal.proofs.Lists.{at_set, set_there}
 use Rattle.wsm_deal.proofs.PartTexts.{Has-part, part-longer}
 
 -- each element has what is said of its place
@@ -43,6 +43,10 @@ first_broken P Q R xs i y each here first then =
       | inl lt ↦ first k p (h.0 lt)
       | inr le ↦ then k p (h.1 le)
     ])
+
+-- the part that is put anew is one whose device has failed
+pub some_set : {D : Type 0} (failed : D → Bool) (parts : List (Part D)) (i : ℕ) (p : Part D) → i < length parts → failed p.out ≡ true → SomeFailed failed (slice_set parts i p)
+some_set failed parts i p within is = (i, p, set_there parts i p within, is)
 
 module _ {D : Type 0} (taken : D → Option (List ℕ)) (olds : Befores) (hands : Hands) where
   -- the part has its rows

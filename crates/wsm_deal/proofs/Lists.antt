@@ -1,5 +1,5 @@
 -- What stands in a list in which one element was put anew.
-use Rattle.std.proofs.Common.{◌≡◌, ◌≢◌, ◌<◌, ◌∙◌, ◌∷◌, get_or, length, [], ℕ, zero, suc, List, Some, refl, sym, ap, inl, inr, ◌⊎◌}
+use Rattle.std.proofs.Common.{◌≡◌, ◌≢◌, ◌<◌, ◌∙◌, ◌∷◌, get_or, length, [], ℕ, zero, suc, List, Some, refl, sym, ap, arith, inl, inr, ◌⊎◌}
 use Rattle.std.specs.Prelude.{slice_get, slice_set}
 use Rattle.std.proofs.lemmas.Option.{slice_get-get_or}
 
@@ -12,6 +12,11 @@ at_set (x ∷ xs) (suc i) (suc k) y p e = elim (at_set xs i k y p e) [
   | inl (same, is) ↦ inl (ap suc same, is)
   | inr (other, is) ↦ inr (λ z. other (cc z), is)
 ]
+
+pub set_there : {A : Type 0} (xs : List A) (i : ℕ) (y : A) → i < length xs → slice_get (slice_set xs i y) i ≡ Some y
+set_there [] i y within = absurd (omega (arith, within))
+set_there (x ∷ xs) zero y within = refl
+set_there (x ∷ xs) (suc i) y within = set_there xs i y (omega (arith, within))
 
 -- the element that a loop has in hand
 pub there : {A : Type 0} (xs : List A) (i : ℕ) (x : A) → i < length xs → x ≡ get_or xs i x → slice_get xs i ≡ Some x

@@ -1,5 +1,5 @@
 -- What the parts hold and were given, of the rows that were dealt to them.
-use Rattle.std.specs.Prelude.{◌≡◌, ◌==◌, ℕ, List, [], ◌∷◌, ◌++◌, Option, Some, slice_get, if◌then◌else◌}
+use Rattle.std.specs.Prelude.{◌≡◌, ◌==◌, ℕ, Bool, true, List, [], ◌∷◌, ◌++◌, Option, Some, slice_get, if◌then◌else◌}
 use Rattle.std.specs.Io.Buffered.{reader_remaining}
 use Rattle.std.specs.Io.KnownBytes.{Appends}
 use Rattle.wsm_csv.specs.Device.{TakesPart}
@@ -45,6 +45,10 @@ EachTook taken olds hands parts = (k : ℕ) (p : _) → slice_get parts k ≡ So
 -- each device took a beginning of it
 abbrev pub EachBegan : {D : Type 0} → (D → Option (List ℕ)) → Befores → Hands → List (Part D) → Type 0
 EachBegan taken olds hands parts = (k : ℕ) (p : _) → slice_get parts k ≡ Some p → TakesPart (olds k) (taken p.out) (part_text (hands k))
+
+-- what takes one of the parts has failed
+abbrev pub SomeFailed : {D : Type 0} → (D → Bool) → List (Part D) → Type 0
+SomeFailed failed parts = (k : ℕ) × (p : _) × slice_get parts k ≡ Some p × failed p.out ≡ true
 
 -- one row more for each part
 abbrev pub one_more_each : Hands → List (List ℕ) → Hands

@@ -1,10 +1,10 @@
 //! Dealing the rows of a reader.
 
-ghost use Rattle.std.specs.Prelude.{◌≡◌, ℕ, List, [], Option, IfOk, IfErr, OnErr, OnOk};
+ghost use Rattle.std.specs.Prelude.{◌≡◌, ◌≢◌, ℕ, List, [], Option, Err, IfOk, IfErr, OnErr, OnOk};
 ghost use Rattle.csv.specs.Records.{fields_of};
 ghost use Rattle.wsm_csv.specs.Records.{AreAll};
-ghost use Rattle.wsm_csv.specs.Rows.{Follows};
-ghost use Rattle.wsm_deal.specs.Parts.{Befores, Dealt, EachBegan, EachHas, EachTook, EndsEarly, Hands, bytes_of, hands_of, one_more_each, one_more_for, with_row};
+ghost use Rattle.wsm_csv.specs.Rows.{Follows, error_of, read_end};
+ghost use Rattle.wsm_deal.specs.Parts.{Befores, Dealt, EachBegan, EachHas, EachTook, EndsEarly, Hands, SomeFailed, bytes_of, hands_of, one_more_each, one_more_for, with_row};
 
 use crate::ahead::Ahead;
 use crate::part::Part;
@@ -69,6 +69,8 @@ impl From<ReadEnd> for DealEnd {
 /// # Errors
 ///
 /// After an error each device took a beginning of the text of the rows that were dealt to its part.
+/// [`DealEnd::ReadFailed`] comes only where the error of the rows is of a read, and
+/// [`DealEnd::WriteFailed`] only where what takes one of the parts has failed.
 pub fn deal<R: Read + Drop, D: Device>(
     shares: &Shares,
     rows: &mut Rows<Ahead<R>>,
@@ -78,6 +80,8 @@ pub fn deal<R: Read + Drop, D: Device>(
         IfOk result (λ _. (cells : List (List (List ℕ))) × Dealt D.taken known shares.now olds cells parts.new) }
     ensures ends_early { (known : Option (List ℕ)) (olds : Befores) → Follows (bytes_of R.remaining) known [] rows.old → EachHas D.taken olds (hands_of shares.now []) parts.old →
         IfErr result (λ _. (cells : List (List (List ℕ))) × EndsEarly D.taken known shares.now olds cells parts.new) }
+    ensures read_failed { result ≡ Err DealEnd.ReadFailed → read_end (error_of rows.new) ≡ ReadEnd.Failed }
+    ensures write_failed { result ≡ Err DealEnd.WriteFailed → SomeFailed D.has_failed parts.new }
 {
     deal_rows(shares, rows, parts)?;
     finish(parts)?;
@@ -94,6 +98,8 @@ fn deal_rows<R: Read + Drop, D: Device>(
         IfOk result (λ _. (cells : List (List (List ℕ))) × AreAll known cells × EachHas D.taken olds (hands_of shares.now cells) parts.new) }
     ensures ends_early { (known : Option (List ℕ)) (olds : Befores) → Follows (bytes_of R.remaining) known [] rows.old → EachHas D.taken olds (hands_of shares.now []) parts.old →
         IfErr result (λ _. (cells : List (List (List ℕ))) × EndsEarly D.taken known shares.now olds cells parts.new) }
+    ensures read_failed { result ≡ Err DealEnd.ReadFailed → read_end (error_of rows.new) ≡ ReadEnd.Failed }
+    ensures write_failed { result ≡ Err DealEnd.WriteFailed → SomeFailed D.has_failed parts.new }
 {
     let mut text = Vec::new(shares.allocator());
     while rows.advance()? {
@@ -110,6 +116,7 @@ fn pass_on<R: Read + Drop, D: Device>(
 ) -> Result<(), DeviceFault>
     ensures kept { (olds : Befores) (hands : Hands) → EachHas D.taken olds hands parts.old → OnOk result (EachHas D.taken olds hands parts.new) }
     ensures began { (olds : Befores) (hands : Hands) → EachHas D.taken olds hands parts.old → OnErr result (EachBegan D.taken olds hands parts.new) }
+    ensures fails { OnErr result (SomeFailed D.has_failed parts.new) }
 {
     if rows.source().may_wait(rows.place()) {
         return hand_on(parts);
@@ -127,6 +134,8 @@ fn deal_row<D: Device>(
 ) -> Result<(), DealEnd>
     ensures dealt { (olds : Befores) (rows : List (List (List ℕ))) → EachHas D.taken olds (hands_of shares.now rows) parts.old → OnOk result (EachHas D.taken olds (hands_of shares.now (with_row rows (fields_of row.now))) parts.new) }
     ensures began { (olds : Befores) (rows : List (List (List ℕ))) → EachHas D.taken olds (hands_of shares.now rows) parts.old → OnErr result (EachBegan D.taken olds (hands_of shares.now (with_row rows (fields_of row.now))) parts.new) }
+    ensures reads_none { result ≢ Err DealEnd.ReadFailed }
+    ensures write_failed { result ≡ Err DealEnd.WriteFailed → SomeFailed D.has_failed parts.new }
 {
     match shares.goal_of(row) {
         Goal::One(part) => deal_to_one(part, row, parts),
@@ -143,6 +152,8 @@ fn deal_to_one<D: Device>(
 ) -> Result<(), DealEnd>
     ensures dealt { (olds : Befores) (hands : Hands) → EachHas D.taken olds hands parts.old → OnOk result (EachHas D.taken olds (one_more_for part hands (fields_of row.now)) parts.new) }
     ensures began { (olds : Befores) (hands : Hands) → EachHas D.taken olds hands parts.old → OnErr result (EachBegan D.taken olds (one_more_for part hands (fields_of row.now)) parts.new) }
+    ensures reads_none { result ≢ Err DealEnd.ReadFailed }
+    ensures write_failed { result ≡ Err DealEnd.WriteFailed → SomeFailed D.has_failed parts.new }
 {
     if part < parts.len() {
         parts[part].add(row)?;
@@ -159,6 +170,8 @@ fn deal_to_all<D: Device>(
 ) -> Result<(), DealEnd>
     ensures dealt { (olds : Befores) (hands : Hands) → EachHas D.taken olds hands parts.old → OnOk result (EachHas D.taken olds (one_more_each hands (fields_of row.now)) parts.new) }
     ensures began { (olds : Befores) (hands : Hands) → EachHas D.taken olds hands parts.old → OnErr result (EachBegan D.taken olds (one_more_each hands (fields_of row.now)) parts.new) }
+    ensures reads_none { result ≢ Err DealEnd.ReadFailed }
+    ensures write_failed { result ≡ Err DealEnd.WriteFailed → SomeFailed D.has_failed parts.new }
 {
     text.clear();
     add_row(row, text)?;
@@ -174,6 +187,7 @@ fn deal_to_all<D: Device>(
 fn hand_on<D: Device>(parts: &mut [Part<D>]) -> Result<(), DeviceFault>
     ensures kept { (olds : Befores) (hands : Hands) → EachHas D.taken olds hands parts.old → OnOk result (EachHas D.taken olds hands parts.new) }
     ensures began { (olds : Befores) (hands : Hands) → EachHas D.taken olds hands parts.old → OnErr result (EachBegan D.taken olds hands parts.new) }
+    ensures fails { OnErr result (SomeFailed D.has_failed parts.new) }
 {
     for part in parts.iter_mut() {
         part.hand_on()?;
@@ -185,6 +199,7 @@ fn hand_on<D: Device>(parts: &mut [Part<D>]) -> Result<(), DeviceFault>
 fn finish<D: Device>(parts: &mut [Part<D>]) -> Result<(), DeviceFault>
     ensures took { (olds : Befores) (hands : Hands) → EachHas D.taken olds hands parts.old → OnOk result (EachTook D.taken olds hands parts.new) }
     ensures began { (olds : Befores) (hands : Hands) → EachHas D.taken olds hands parts.old → OnErr result (EachBegan D.taken olds hands parts.new) }
+    ensures fails { OnErr result (SomeFailed D.has_failed parts.new) }
 {
     for part in parts.iter_mut() {
         part.finish()?;

@@ -23,7 +23,7 @@ pub struct Part<D> {
 }
 
 impl<D: Device> Part<D> {
-    ghost use Rattle.std.specs.Prelude.{◌≡◌, ◌∷◌, ◌++◌, [], ℕ, List, Option, OnOk, OnErr, true, if◌then◌else◌};
+    ghost use Rattle.std.specs.Prelude.{◌≡◌, ◌≢◌, ◌∷◌, ◌++◌, [], ℕ, List, Option, Err, OnOk, OnErr, true, if◌then◌else◌};
     ghost use Rattle.std.specs.Io.KnownBytes.{Appends};
     ghost use Rattle.csv.specs.Records.{fields_of};
     ghost use Rattle.csv.specs.Writing.{default_writer, row_text};
@@ -42,11 +42,14 @@ impl<D: Device> Part<D> {
         }
     }
 
-    /// Deals a row to the part. Where too much is kept it is handed on.
+    /// Deals a row to the part. Where too much is kept it is handed on. An error is of memory, or of a device
+    /// that has failed.
     #[inline(always)]
     pub(crate) fn add(&mut self, row: &ByteRecord) -> Result<(), DealEnd>
         ensures adds { (old : Option (List ℕ)) (rows : List (List (List ℕ))) → Has D.taken old rows self.old → OnOk result (Has D.taken old (rows ++ fields_of row.now ∷ []) self.new) }
         ensures part { (old : Option (List ℕ)) (rows : List (List (List ℕ))) → Has D.taken old rows self.old → OnErr result (TakesPart old (D.taken (out_of self.new)) (part_text (rows ++ fields_of row.now ∷ []))) }
+        ensures reads_none { result ≢ Err DealEnd.ReadFailed }
+        ensures write_failed { result ≡ Err DealEnd.WriteFailed → D.has_failed (out_of self.new) ≡ true }
     {
         self.keep(row)?;
         if FULL <= self.text.len() {
@@ -60,6 +63,8 @@ impl<D: Device> Part<D> {
         requires { text.now ≡ row_text default_writer (fields_of row.now) }
         ensures adds { (old : Option (List ℕ)) (rows : List (List (List ℕ))) → Has D.taken old rows self.old → OnOk result (Has D.taken old (rows ++ fields_of row.now ∷ []) self.new) }
         ensures part { (old : Option (List ℕ)) (rows : List (List (List ℕ))) → Has D.taken old rows self.old → OnErr result (TakesPart old (D.taken (out_of self.new)) (part_text (rows ++ fields_of row.now ∷ []))) }
+        ensures reads_none { result ≢ Err DealEnd.ReadFailed }
+        ensures write_failed { result ≡ Err DealEnd.WriteFailed → D.has_failed (out_of self.new) ≡ true }
     {
         self.keep_text(row, text)?;
         if FULL <= self.text.len() {
@@ -102,11 +107,12 @@ impl<D: Device> Part<D> {
         begin(row, &mut self.text)
     }
 
-    /// Gives the device the text that it wasn't handed.
+    /// Gives the device the text that it wasn't handed. An error is answered only where the device has failed.
     pub(crate) fn hand_on(&mut self) -> Result<(), DeviceFault>
         ensures kept { (old : Option (List ℕ)) (rows : List (List (List ℕ))) → Has D.taken old rows self.old → OnOk result (Has D.taken old rows self.new) }
         ensures empty { OnOk result (self.new.text.items ≡ []) }
         ensures part { (old : Option (List ℕ)) (rows : List (List (List ℕ))) → Has D.taken old rows self.old → OnErr result (TakesPart old (D.taken (out_of self.new)) (part_text rows)) }
+        ensures fails { OnErr result (D.has_failed (out_of self.new) ≡ true) }
     {
         if self.text.is_empty() {
             return Ok(());
@@ -119,10 +125,12 @@ impl<D: Device> Part<D> {
         Ok(())
     }
 
-    /// Gives the device the text that it wasn't handed, and has all that it took leave.
+    /// Gives the device the text that it wasn't handed, and has all that it took leave. An error is answered
+    /// only where the device has failed.
     pub(crate) fn finish(&mut self) -> Result<(), DeviceFault>
         ensures took { (old : Option (List ℕ)) (rows : List (List (List ℕ))) → Has D.taken old rows self.old → OnOk result (Appends old (D.taken (out_of self.new)) (part_text rows)) }
         ensures part { (old : Option (List ℕ)) (rows : List (List (List ℕ))) → Has D.taken old rows self.old → OnErr result (TakesPart old (D.taken (out_of self.new)) (part_text rows)) }
+        ensures fails { OnErr result (D.has_failed (out_of self.new) ≡ true) }
     {
         self.hand_on()?;
         if self.out.failed() {

@@ -1,8 +1,9 @@
-use Rattle.std.proofs.Common.{◌≡◌, ◌<◌, Some, arith, length, subst}
+use Rattle.std.proofs.Common.{◌≡◌, ◌<◌, ◌∙◌, Err, Some, ap, arith, length, subst, sym}
 use Rattle.std.specs.Prelude.{slice_get}
+use Rattle.std.proofs.lemmas.Result.{err_from_is_err_and}
 use Rattle.csv.specs.Records.{fields_of}
 use Rattle.wsm_deal.specs.Parts.{one_more_each}
-use Rattle.wsm_deal.proofs.EachPart.{BeganAt, HasAt, first_all, first_broken, first_more, has_began, more_began}
+use Rattle.wsm_deal.proofs.EachPart.{BeganAt, HasAt, first_all, first_broken, first_more, has_began, more_began, some_set}
 use Rattle.wsm_deal.proofs.Lists.{there}
 use Rattle.wsm_deal.proofs.Outcomes.{on_err}
 use Rattle.wsm_deal.proofs.dealing.deal_to_all.Goals as goal
@@ -37,3 +38,9 @@ returns-clause-dealt g c = λ olds hands each.
 pub returns-in_err-add_row-clause-began : goal.returns-in_err-add_row-clause-began
 returns-in_err-add_row-clause-began g c = λ olds hands each.
     on_err c.from_residual.result (λ k p at. more_began g.D.Device.taken olds hands (fields_of c.args.row.now) k p (each k p at))
+
+pub returns-in_err-add_text-clause-write_failed : goal.returns-in_err-add_text-clause-write_failed
+returns-in_err-add_text-clause-write_failed g c = λ failed.
+    let e = err_from_is_err_and c.from_residual-in_err-add_text.result c.from_residual-in_err-add_text.ensures.1 in
+    let within : c.loop-part.part-index < length c.loop-part.parts = omega (arith, c.loop-part-test.true, c.loop-part.auto.parts) in
+    some_set g.D.Device.has_failed c.loop-part.parts c.loop-part.part-index c.add_text.new.self within (c.in_err-add_text.ensures.write_failed (sym (e.1 ∙ ap Err e.2) ∙ failed))

@@ -1,8 +1,9 @@
-use Rattle.std.proofs.Common.{◌≢◌, arith, get_or}
+use Rattle.std.proofs.Common.{◌≢◌, ◌∙◌, Err, ap, arith, get_or, sym}
 use Rattle.std.proofs.lemmas.Option.{slice_get-get_or, slice_get_within}
+use Rattle.std.proofs.lemmas.Result.{err_from_is_err_and}
 use Rattle.csv.specs.Records.{fields_of}
 use Rattle.wsm_deal.specs.Parts.{one_more_for}
-use Rattle.wsm_deal.proofs.EachPart.{BeganAt, HasAt, each_set, has_began, more_for, more_for_began, same_for}
+use Rattle.wsm_deal.proofs.EachPart.{BeganAt, HasAt, each_set, has_began, more_for, more_for_began, same_for, some_set}
 use Rattle.wsm_deal.proofs.Outcomes.{on_err}
 use Rattle.wsm_deal.proofs.dealing.deal_to_one.Goals as goal
 
@@ -33,3 +34,8 @@ returns-else-part-parts-clause-dealt g c = λ olds hands each k p at.
     let within = slice_get_within c.args.parts.now k p at in
     let other : k ≢ c.args.part = omega (arith, within, c.if-part-parts.false) in
     same_for g.D.Device.taken olds hands (fields_of c.args.row.now) c.args.part k p other (each k p at)
+
+pub returns-in_err-add-clause-write_failed : goal.returns-in_err-add-clause-write_failed
+returns-in_err-add-clause-write_failed g c = λ failed.
+    let e = err_from_is_err_and c.from_residual.result c.from_residual.ensures.1 in
+    some_set g.D.Device.has_failed c.args.parts.now c.args.part c.add.new.self c.if-part-parts.true (c.in_err-add.ensures.write_failed (sym (e.1 ∙ ap Err e.2) ∙ failed))

@@ -1,6 +1,6 @@
 use Rattle.std.proofs.Common.{◌≡◌, ◌<◌, Some, arith, length, subst}
 use Rattle.std.specs.Prelude.{slice_get}
-use Rattle.wsm_deal.proofs.EachPart.{BeganAt, HasAt, TookAt, first_all, first_broken, first_more, has_began, took_began}
+use Rattle.wsm_deal.proofs.EachPart.{BeganAt, HasAt, TookAt, first_all, first_broken, first_more, has_began, some_set, took_began}
 use Rattle.wsm_deal.proofs.Lists.{there}
 use Rattle.wsm_deal.proofs.Outcomes.{on_err}
 use Rattle.wsm_deal.proofs.dealing.finish.Goals as goal
@@ -27,3 +27,9 @@ returns-in_err-finish-clause-began g c = λ olds hands each.
 pub returns-clause-took : goal.returns-clause-took
 returns-clause-took g c = λ olds hands each.
     first_all (TookAt g.D.Device.taken olds hands) (HasAt g.D.Device.taken olds hands) c.loop-part.parts c.loop-part.part-index (omega (arith, c.loop-part-test.false, c.loop-part.auto.parts)) (c.loop-part.invariant olds hands each)
+
+pub returns-in_err-finish-clause-fails : goal.returns-in_err-finish-clause-fails
+returns-in_err-finish-clause-fails g c =
+    let i = c.loop-part.part-index in
+    let within : i < length c.loop-part.parts = omega (arith, c.loop-part-test.true, c.loop-part.auto.parts) in
+    on_err c.from_residual.result (some_set g.D.Device.has_failed c.loop-part.parts i c.finish.new.self within c.in_err-finish.ensures.fails)

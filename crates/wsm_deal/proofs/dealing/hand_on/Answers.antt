@@ -1,6 +1,6 @@
 use Rattle.std.proofs.Common.{◌≡◌, ◌<◌, Some, arith, length, subst}
 use Rattle.std.specs.Prelude.{slice_get}
-use Rattle.wsm_deal.proofs.EachPart.{BeganAt, HasAt, each_set, has_began}
+use Rattle.wsm_deal.proofs.EachPart.{BeganAt, HasAt, each_set, has_began, some_set}
 use Rattle.wsm_deal.proofs.Lists.{there}
 use Rattle.wsm_deal.proofs.Outcomes.{on_err}
 use Rattle.wsm_deal.proofs.dealing.hand_on.Goals as goal
@@ -24,3 +24,9 @@ returns-in_err-hand_on-clause-began g c = λ olds hands each.
     let at : slice_get c.loop-part.parts i ≡ Some c.part-item.result = there c.loop-part.parts i c.part-item.result within c.part-item.is in
     on_err c.from_residual.result (each_set (HasAt taken olds hands) (BeganAt taken olds hands) c.loop-part.parts i c.hand_on.new.self inv
     (c.in_err-hand_on.ensures.part (olds i) (hands i) (search (inv i c.part-item.result at, subst (HasAt taken olds hands i) c.part-item.is (inv i c.part-item.result at)))) (λ k p other h. has_began taken olds hands k p h))
+
+pub returns-in_err-hand_on-clause-fails : goal.returns-in_err-hand_on-clause-fails
+returns-in_err-hand_on-clause-fails g c =
+    let i = c.loop-part.part-index in
+    let within : i < length c.loop-part.parts = omega (arith, c.loop-part-test.true, c.loop-part.auto.parts) in
+    on_err c.from_residual.result (some_set g.D.Device.has_failed c.loop-part.parts i c.hand_on.new.self within c.in_err-hand_on.ensures.fails)
