@@ -20,7 +20,7 @@ use Rattle.wsm_program.specs.Comparisons.{comparison_number}
 use Rattle.wsm_program.specs.Program.{Name, Header, Program, is_name_of, is_number_field, is_test, is_instr, is_section, is_header, is_program, is_column, is_budget}
 use Rattle.wsm_program.proofs.Opcodes.{code_is_byte, of_code_again, of_code_has_code}
 use Rattle.wsm_program.proofs.Comparisons as comparisons
-use Rattle.wsm_program.proofs.Lawful.{header_parts, few_fields}
+use Rattle.wsm_program.proofs.Lawful.{HeaderParts, header_parts, few_fields}
 use Rattle.wsm_program.proofs.Within.{at_most}
 use Rattle.wsm_bytecode.specs.declared.version.Version.{Version}
 use Rattle.wsm_bytecode.specs.declared.version.Version.TheVariants.{One, Two}
@@ -89,7 +89,7 @@ number_within (g ∷ fs) (suc f) e = omega (arith, number_within fs f e)
 -- a name's number is below 1,000, but that it fits two bytes is all that is asked
 pub record FewParts (h : Header) : Type 0 where
   pub fields : leb (length h.schema.fields) 16 ≡ true
-  pub kinds : leb (length h.kinds) 16 ≡ true
+  pub others : HeaderParts h
   pub names : (e i : ℕ) → is_name_of (enum_names h.schema e) i ≡ true → i < 65536
 
 few_below : (n i : ℕ) → leb n 16 ≡ true → i < n → i < 256
@@ -149,7 +149,7 @@ module _ (v : Version) (h : Header) (few : FewParts h) where
       (λ p g. (names_there (enum_names h.schema p.0) p.1 g.0, g.0)) (λ p _ g. (g, known (PushEnum p.0 p.1) refl))
   instr_by_codes opcodes.Field = wrapped Field (index (length h.schema.fields) few.fields) (λ f _. (tt, refl)) (of_opcode opcodes.Field) (λ f. refl) (λ f _ g. g.0) (λ f g. (g, known (Field f) refl))
   instr_by_codes opcodes.Key = just Key (tt, refl) (of_opcode opcodes.Key) refl (refl, known Key refl)
-  instr_by_codes opcodes.Acc = wrapped Acc (index (length h.kinds) few.kinds) (λ a _. (tt, refl)) (of_opcode opcodes.Acc) (λ a. refl) (λ a _ g. g.0) (λ a g. (g, known (Acc a) refl))
+  instr_by_codes opcodes.Acc = wrapped Acc (index (length h.kinds) few.others.kinds) (λ a _. (tt, refl)) (of_opcode opcodes.Acc) (λ a. refl) (λ a _ g. g.0) (λ a g. (g, known (Acc a) refl))
   instr_by_codes opcodes.Count = just Count (tt, refl) (of_opcode opcodes.Count) refl (refl, known Count refl)
   instr_by_codes (opcodes.Compute a) = just (Compute a) (tt, refl) (of_opcode (opcodes.Compute a)) refl (refl, known (Compute a) refl)
   instr_by_codes opcodes.Neg = just Neg (tt, refl) (of_opcode opcodes.Neg) refl (refl, known Neg refl)
@@ -158,7 +158,7 @@ module _ (v : Version) (h : Header) (few : FewParts h) where
   instr_by_codes opcodes.Jump = wrapped Jump target_codes (λ t _. (tt, refl)) (of_opcode opcodes.Jump) (λ t. refl) (λ t _ g. g.0) (λ t g. (g, known (Jump t) refl))
   instr_by_codes opcodes.JumpIfFalse = wrapped JumpIfFalse target_codes (λ t _. (tt, refl)) (of_opcode opcodes.JumpIfFalse) (λ t. refl) (λ t _ g. g.0) (λ t g. (g, known (JumpIfFalse t) refl))
   instr_by_codes opcodes.Test = test_codes v refl
-  instr_by_codes opcodes.Fold = wrapped Fold (index (length h.kinds) few.kinds) (λ a _. (tt, refl)) (of_opcode opcodes.Fold) (λ a. refl) (λ a _ g. g.0) (λ a g. (g, known (Fold a) refl))
+  instr_by_codes opcodes.Fold = wrapped Fold (index (length h.kinds) few.others.kinds) (λ a _. (tt, refl)) (of_opcode opcodes.Fold) (λ a. refl) (λ a _ g. g.0) (λ a g. (g, known (Fold a) refl))
   instr_by_codes opcodes.Return = just Return (tt, refl) (of_opcode opcodes.Return) refl (refl, known Return refl)
 
   opcode_table : IsTable code_of of_code
@@ -217,7 +217,7 @@ names_below s (suc f) i h good = fields_below [] s.fields f i (schema_parts s h)
 few_parts : (h : Header) → is_header h ≡ true → FewParts h
 few_parts h good =
     let p = header_parts h good in
-    record { fields = few_fields h.schema p.schema; kinds = p.kinds; names = λ e i. names_below h.schema e i p.schema }
+    record { fields = few_fields h.schema p.schema; others = p; names = λ e i. names_below h.schema e i p.schema }
 
 settings_codes : (v : Version) → Codes Any SettingsParts (settings_at v) (settings v)
 settings_codes One = first_proofs.settings_codes

@@ -133,9 +133,6 @@ above a b h = grind arith
 not_below : (a b : ℕ) → not (nat_lt a b) ≡ nat_le b a
 not_below a b = elim (nat_le b a) as (λ x. nat_le b a ≡ x → not (nat_lt a b) ≡ x) [ true ↦ λ h. ap not (not_above a b h) | false ↦ λ h. ap not (above a b h) ] refl
 
-first_of_three : (x y z : Bool) (r1 r2 r3 : Rule) (f : Rule → Rejection) → is_none (option_map f (cond x (Some r1) (cond y (Some r2) (cond z (Some r3) None)))) ≡ (not x && (not y && not z))
-first_of_three x y z r1 r2 r3 f = grind arith
-
 stated_enough : (s : Costs) (n : Costs) → is_none (budget_fault s n) ≡ (nat_le n.per_record s.per_record && (nat_le n.per_pane s.per_pane && nat_le n.held s.held))
 stated_enough s n = grind (arith, not_below)
 

@@ -73,10 +73,6 @@ known_of t Unfit = None
 known_of t NoNumber = plain_known t
 known_of t (Within i) = number_known t i
 
-abbrev type_or : CellType → Option Known → CellType
-type_or t None = t
-type_or t (Some x) = type_known x
-
 pub known_has : (t : CellType) (r : Range) (x : Known) → known_of t r ≡ Some x → type_known x ≡ t
 known_has t r x e = grind arith
 

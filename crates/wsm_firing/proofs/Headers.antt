@@ -1,41 +1,36 @@
 -- What a program's own laws say of its triggers and columns, and of the records that a firing is computed over.
 use Rattle.std.proofs.Common.{◌≡◌, ℕ, ◌≤◌, Bool, true, ◌&&◌, List, length, ℤ, pos, IsTrue, SFits, w64, to_z, of_z, to_z-of_z, sym, ap, subst, ◌∙◌, arith}
 use Rattle.std.proofs.lemmas.Int.{ints, fits_signed_from_abs}
+use Rattle.std.proofs.lemmas.Bool.{and_parts}
 use Rattle.std.proofs.lemmas.Bool.Decides.{nat_tests}
 use Rattle.std.specs.Prelude.{nat_le, nat_lt, unsigned_abs}
 use Rattle.wsm_record.specs.declared.event.Value.{Value}
-use Rattle.wsm_record.specs.Modes.{may_write, retracts}
+use Rattle.wsm_record.specs.Modes.{retracts}
 use Rattle.wsm_windows.specs.Windows.{IsSpan}
 use Rattle.wsm_interval.specs.Interval.{interval, holds}
 use Rattle.wsm_semantics.proofs.Assigned.{both}
 use Rattle.wsm_program.specs.declared.instr.SectionId.TheVariants.{Fire}
-use Rattle.wsm_program.specs.Program.{Header, Program, is_span, is_shape, is_clock, is_firing, is_row, is_header, is_program}
-use Rattle.wsm_record.specs.Schema.{is_schema}
+use Rattle.wsm_record.specs.Name.{is_between}
+use Rattle.wsm_program.specs.Program.{Header, Program, is_header, is_program}
+use Rattle.wsm_program.proofs.Lawful.{HeaderParts, header_parts}
 use Rattle.wsm_rules.proofs.Lawful.{lawful, lawful_span}
 use Rattle.wsm_machine.specs.InRange.{in_range, accs_in}
 use Rattle.wsm_machine.specs.Meaning.{pane_inputs}
 
+-- what is_header holds of what fires and of what is written, as numbers
 pub record IsLawfulFiring (h : Header) : Type 0 where
+  pub parts : HeaderParts h
   pub early : IsSpan h.early
   pub late : IsSpan h.late
-  pub writes : may_write h.mode h.form ≡ true
   pub columns : length h.columns ≤ 16
 
 of_header : (h : Header) → is_header h ≡ true → IsLawfulFiring h
-unfolding is_header
 of_header h e =
-    let behind_clock = (both (is_clock h) _ (both (is_schema h.schema) _ e).1).1 in
-    let spans = (both (is_shape h.shape) _ (both (is_firing h) _ behind_clock).0).1 in
-    let row = (both (is_row h) _ (both (is_firing h) _ behind_clock).1).0 in
-    record {
-      early = lawful_span h.early (both (is_span h.early) _ spans).0;
-      late = lawful_span h.late (both (is_span h.late) _ (both (is_span h.early) _ spans).1).0;
-      writes = (both (is_span h.late) _ (both (is_span h.early) _ spans).1).1;
-      columns = few (length h.columns) (both _ _ (both (nat_le (length h.kinds) 16) _ row).1).0;
-    }
+    let parts = header_parts h e in
+    record { parts = parts; early = lawful_span h.early parts.early; late = lawful_span h.late parts.late; columns = few (length h.columns) parts.count }
   where
-    few : (n : ℕ) → (nat_le 1 n && nat_le n 16) ≡ true → n ≤ 16
-    few n h = let few = (both (nat_le 1 n) (nat_le n 16) h).1 in grind (arith, nat_tests)
+    few : (n : ℕ) → is_between 1 16 n ≡ true → n ≤ 16
+    few n h = let most = (and_parts (nat_le 1 n) (nat_le n 16) h).1 in grind (arith, nat_tests)
 
 of_program : (p : Program) → IsTrue (is_program p) → IsLawfulFiring p.header
 unfolding is_program

@@ -24,15 +24,6 @@ use Rattle.wsm_query.proofs.Back.{Again, Back, Backs, ReadsBack, Carries, more_p
 abbrev word_token : Name → List Token
 word_token x = Word x ∷ []
 
-name_again : (w : Name) → is_name w ≡ true → Again name word_token w
-unfolding name
-name_again w e k = ap (λ (b : Bool). elim b [ true ↦ Took w k | false ↦ Stopped (record { fault = Unexpected; offset = 0 }) ]) e
-
-name_case : (w : Name) (rest : Tokens) (f : TextFault) → is_proper (Word w) ≡ true → Proper rest → (c : Bool) → is_name w ≡ c
-    → Backs name word_token (elim c [ true ↦ Took w rest | false ↦ Stopped f ])
-name_case w rest f p q true e = record { again = name_again w e; proper = both_true p refl; rest_proper = q }
-name_case w rest f p q false e = tt
-
 name_backs : (ts : Tokens) → Proper ts → Backs name word_token (name ts)
 unfolding name has_proper
 name_backs ts p = grind arith
@@ -162,9 +153,6 @@ keys_back = after_back (codes "KEYS") (Word (codes "KEYS")) (word_says _ refl) r
 -- the names of an ENUM, of which its type is made before the bracket is taken
 abbrev enum_rest : Rule FieldType
 enum_rest = until (codes ")") (names >>= λ xs. give (field_types.Enum xs))
-
-made_of : (xs : List Name) (read : Read (Unit {0})) → and_then read (λ _. give (field_types.Enum xs)) ≡ and_then (and_then read (λ _. give xs)) (λ ys. give (field_types.Enum ys))
-made_of xs read = grind arith
 
 made : (read : Read (List Name)) → and_then (and_then read (λ xs. give (field_types.Enum xs))) (λ t. ask (codes ")") >>= λ _. give t)
     ≡ and_then (and_then read (λ xs. ask (codes ")") >>= λ _. give xs)) (λ xs. give (field_types.Enum xs))

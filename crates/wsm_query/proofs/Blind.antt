@@ -127,10 +127,6 @@ number_blind = record {
   ];
 }
 
-name_at : (b : Bool) (w : List ℕ) (at : ℕ) (rest : Tokens) (f g : TextFault) → g ≡ bare_fault f
-    → elim b [ true ↦ Took w (bare rest) | false ↦ Stopped g ] ≡ bare_read (elim b [ true ↦ Took w rest | false ↦ Stopped f ])
-name_at b w at rest f g e = grind arith
-
 name_read : (ts : Tokens) → name (bare ts) ≡ bare_read (name ts)
 unfolding name bare unexpected
 name_read ts = grind arith

@@ -31,16 +31,9 @@ is_worded (c ∷ cs) = nat_le 65 c
 no_worded_sign : (s : Sign) → is_worded (sign_text s) ≡ false
 no_worded_sign s = grind arith
 
-no_sign_word : (s : Sign) → is_word (sign_text s) ≡ false
-no_sign_word s = grind arith
-
 sign_back : (s : Sign) → sign_of (sign_text s) ≡ Some s
 unfolding sign_of
 sign_back s = grind arith
-
-no_sign : sign_of [] ≡ None
-unfolding sign_of
-no_sign = refl
 
 pub differ : {A : Type 0} (b : Bool) → b ≡ true → b ≡ false → A
 differ b e f = cc
@@ -56,9 +49,6 @@ word_only s h (Number n) p e =
 
 pub word_says : (s : List ℕ) → is_worded s ≡ true → Says s (Word s)
 word_says s h = record { only = word_only s h }
-
-some_same : (g h : Sign) → ◌≡◌ {A = Option Sign} (Some g) (Some h) → h ≡ g
-some_same g h e = cc
 
 sign_only : (g : Sign) (u : Token) → is_proper u ≡ true → bytes_eq (sign_text g) (spelling u) ≡ true → u ≡ Mark g
 sign_only g u p e = grind arith

@@ -49,9 +49,6 @@ until_sign_spelt g r = spelt (λ b. step r (λ x. step (sign_spelt g) (λ _. don
 named : Name → Rule (List Name)
 named x = brace (codes ",") name >>= λ xs. ask (codes ";") >>= λ _. give (x ∷ xs)
 
-made_of : (x : Name) (read : Read (List Name)) → and_then (and_then read (λ xs. give (x ∷ xs))) (λ xs. ask (codes ";") >>= λ _. give xs) ≡ and_then read (λ xs. ask (codes ";") >>= λ _. give (x ∷ xs))
-made_of x read = grind arith
-
 made : (read : Read Name) → and_then (and_then read (λ x. brace (codes ",") name >>= λ xs. give (x ∷ xs))) (λ xs. ask (codes ";") >>= λ _. give xs) ≡ and_then read named
 unfolding named
 made read = grind arith

@@ -42,11 +42,6 @@ number_ends ts p = grind arith
 pub number_spelt : Spelt number figures
 number_spelt = record { law = number_ends }
 
-name_case : (c : Bool) (w : Name) (rest : Tokens) (f : TextFault) → Proper rest
-    → Ends (Then (Word w) 0 (bare rest)) (λ x. Word x ∷ []) (elim c [ true ↦ Took w rest | false ↦ Stopped f ])
-name_case true w rest f p = (refl, p)
-name_case false w rest f p = tt
-
 name_ends : (ts : Tokens) → Proper ts → Ends (bare ts) (λ x. Word x ∷ []) (name ts)
 unfolding name bare has_proper
 name_ends ts p = grind arith

@@ -3,7 +3,7 @@ use Rattle.std.proofs.Common.{◌≡◌, ◌<◌, ◌≤◌, ◌+◌, ◌*◌, �
 use Rattle.std.proofs.lemmas.Bool.{cases_Bool, cases_eq}
 use Rattle.std.proofs.lemmas.Bool.Decides.{nat_tests}
 use Rattle.std.specs.Prelude.{nat_lt}
-use Rattle.std.proofs.lemmas.List.{append-nil, drop_all, drop_at, get_or_append_left, take_all, take_at, get_or_push, get_or-set_other, get_or-set_same, length-set, length_push}
+use Rattle.std.proofs.lemmas.List.{append-nil, drop_all, drop_at, take_all, take_at, get_or-set_other, get_or-set_same, length-set}
 use Rattle.std.specs.List.{remove}
 use Rattle.std.specs.VecDeque.{deque_capacity, deque_items, deque_len}
 use Rattle.std.specs.declared.collections.VecDeque.{VecDeque}
@@ -38,35 +38,6 @@ module _ {T Z : Type 0} where
         | inl is ↦ rw is (let at = get_or-set_same xs k y e fits in rw at (same ∙ h.each k d fits))
         | inr other ↦ let at = get_or-set_other xs k j y e other in rw at (h.each j e (omega (arith, inside, length-set xs k y)))
       ];
-      wide = λ j e inside. elim (cases_eq j k) [
-        | inl is ↦ rw is (let at = get_or-set_same xs k y e fits in rw at (omega (arith, wide, h.wide k d fits)))
-        | inr other ↦ let at = get_or-set_other xs k j y e other in rw at (h.wide j e (omega (arith, inside, length-set xs k y)))
-      ];
-      within = omega (arith, h.within, length-set xs k y);
-    }
-
-    -- the first that isn't full is one longer
-    pub filled_more : (k : ℕ) (y d : VecDeque T Z) → k < length xs → TIER * k ≤ n → n < TIER * k + TIER → deque_len y ≡ deque_len (get_or xs k d) + 1 → deque_capacity (get_or xs k d) ≤ deque_capacity y → AreFilled (n + 1) (set xs k y)
-    filled_more k y d fits low high same wide = record {
-      each = λ j e inside. elim (cases_eq j k) [
-        | inl is ↦ rw is (let at = get_or-set_same xs k y e fits in rw at (omega (arith, same, h.each k d fits, low, high)))
-        | inr other ↦
-            let at = get_or-set_other xs k j y e other in
-            let was = h.each j e (omega (arith, inside, length-set xs k y)) in
-            rw at (omega (arith, was, low, high, other))
-      ];
-      wide = λ j e inside. elim (cases_eq j k) [
-        | inl is ↦ rw is (let at = get_or-set_same xs k y e fits in rw at (omega (arith, wide, h.wide k d fits)))
-        | inr other ↦ let at = get_or-set_other xs k j y e other in rw at (h.wide j e (omega (arith, inside, length-set xs k y)))
-      ];
-      within = omega (arith, h.within, length-set xs k y, fits, high);
-    }
-
-    -- one that has any is one shorter
-    pub lacks_first : (k : ℕ) (y d : VecDeque T Z) → k < length xs → TIER * k < n → deque_len y + 1 ≡ deque_len (get_or xs k d) → deque_capacity y ≡ deque_capacity (get_or xs k d) → Lacks n k (set xs k y)
-    lacks_first k y d fits some less wide = record {
-      each = λ j e inside other. let at = get_or-set_other xs k j y e other in rw at (h.each j e (omega (arith, inside, length-set xs k y)));
-      short = λ e. let at = get_or-set_same xs k y e fits in rw at (omega (arith, less, h.each k d fits));
       wide = λ j e inside. elim (cases_eq j k) [
         | inl is ↦ rw is (let at = get_or-set_same xs k y e fits in rw at (omega (arith, wide, h.wide k d fits)))
         | inr other ↦ let at = get_or-set_other xs k j y e other in rw at (h.wide j e (omega (arith, inside, length-set xs k y)))
@@ -128,20 +99,6 @@ module _ {T Z : Type 0} where
   pub left : (xs : List (VecDeque T Z)) (n : ℕ) (y : VecDeque T Z) → AreFilled n xs → 0 < length (joined xs) → deque_items y ≡ [] → joined (remove xs 0 ++ y ∷ []) ≡ drop TIER (joined xs)
   left [] n y h some is = absurd (omega (arith, some))
   left (x ∷ xs) n y h some is = flat_map_none deque_items xs y is ∙ sym (first_left x xs n h)
-
-  -- one more without an item
-  pub filled_none : (xs : List (VecDeque T Z)) (y : VecDeque T Z) → AreFilled 0 xs → deque_len y ≡ 0 → TIER ≤ deque_capacity y → AreFilled 0 (xs ++ y ∷ [])
-  filled_none xs y h empty wide = record {
-    each = λ k d inside. elim (cases_eq k (length xs)) [
-      | inl is ↦ let at = get_or_push xs y d k (sym is) in rw at (omega (arith, empty))
-      | inr other ↦ let less : k < length xs = omega (arith, inside, other, length_push xs y) in let at = get_or_append_left xs (y ∷ []) d k less in rw at (h.each k d less)
-    ];
-    wide = λ k d inside. elim (cases_eq k (length xs)) [
-      | inl is ↦ let at = get_or_push xs y d k (sym is) in rw at wide
-      | inr other ↦ let less : k < length xs = omega (arith, inside, other, length_push xs y) in let at = get_or_append_left xs (y ∷ []) d k less in rw at (h.wide k d less)
-    ];
-    within = omega arith;
-  }
 
   -- the first of the next goes to its end
   pub lacks_next : (n k : ℕ) (xs : List (VecDeque T Z)) (z y d e : VecDeque T Z) → Lacks n k xs → k + 1 < length xs → TIER * (k + 1) < n

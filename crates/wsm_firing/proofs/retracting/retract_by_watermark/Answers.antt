@@ -49,7 +49,7 @@ returns-else-retracts-clause-can c =
     subst (λ n. CanAdd p c.args.rows.now.room n nothing fs) (sym (ap length c.requires.empty)) (can_write p c.args.rows.now.room 0 fs c.requires.can.can)
 
 pub returns-then-retracts-clause-form : goal.returns-then-retracts-clause-form
-returns-then-retracts-clause-form c = (lawful_firing c.args.verified.now _ refl (subst (λ (p : Program). IsTrue (is_program p)) c.program.ensures.program c.header.ensures.lawful)).writes
+returns-then-retracts-clause-form c = (lawful_firing c.args.verified.now _ refl (subst (λ (p : Program). IsTrue (is_program p)) c.program.ensures.program c.header.ensures.lawful)).parts.form
 
 pub returns-else-retracts-clause-form : goal.returns-else-retracts-clause-form
-returns-else-retracts-clause-form c = (lawful_firing c.args.verified.now _ refl (subst (λ (p : Program). IsTrue (is_program p)) c.program.ensures.program c.header.ensures.lawful)).writes
+returns-else-retracts-clause-form c = (lawful_firing c.args.verified.now _ refl (subst (λ (p : Program). IsTrue (is_program p)) c.program.ensures.program c.header.ensures.lawful)).parts.form

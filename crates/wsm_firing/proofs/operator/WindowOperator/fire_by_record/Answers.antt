@@ -49,7 +49,7 @@ returns-then-header-eq0-2 c =
     let more : Written = withdrawn_entered p c.args.arrival es in
     let none : fs ≡ [] = none_then (goal.at.returns-then-header-eq0-2 c).Then-header-eq0-2 in
     let nothing_more : more ≡ [] = told_none (plan_of p) (query_of p) withdraws (λ r h. refl) _ es quiet in
-    let h : may_write p.header.mode p.header.form ≡ true = (lawful (goal.at.returns-then-header-eq0-2 c).After-header-header).writes in
+    let h : may_write p.header.mode p.header.form ≡ true = (lawful (goal.at.returns-then-header-eq0-2 c).After-header-header).parts.form in
     record {
       panes = sym (none_fired (plan_of p) (query_of p) _ es quiet);
       keeps = record { keys = refl; shape = refl; live = refl; widths = refl };
@@ -68,7 +68,7 @@ pub returns : goal.returns
 returns c =
     let p = c.args.verified.now in let es = entries_of c.args.self.now.state.held in
     let fs : List (Fired (List Value)) = fires_entered p c.args.arrival es in
-    let h : may_write p.header.mode p.header.form ≡ true = (lawful (goal.at.returns c).After-header-header).writes in
+    let h : may_write p.header.mode p.header.form ≡ true = (lawful (goal.at.returns c).After-header-header).parts.form in
     let fired = c.fire_entered.ensures in
     record {
       panes = fired.panes;
