@@ -153,6 +153,7 @@ impl Slots {
     }
 
     /// Puts a record into the pane in a slot, which is folded by the values.
+    #[inline(always)]
     pub(crate) fn record(&mut self, slot: usize, kinds: &[Kind], values: &[Value])
         requires there { IsTrue (is_some (slot_at self.old.slots slot)) }
         requires wide { length values.now ≡ self.old.widths.accumulators }
@@ -292,6 +293,7 @@ fn window_count(widths: Widths, count: usize) -> usize
 
 // Folds a row into the values of a slot, among those of slots that have as many each, where something
 // is folded there already. Else writes it there.
+#[inline(always)]
 fn fold_part(values: &mut [Value], slot: usize, is_folded: bool, kinds: &[Kind], row: &[Value])
     requires part { HasPart slot (length row.now) values.old }
     requires types { IsTrue (are_of_kinds kinds.now row.now) }

@@ -305,6 +305,7 @@ fn search(row: &SlotRow, slots: &Slots, place: Place) -> Result<usize, usize>
 }
 
 // How many entries stand before a place.
+#[inline(always)]
 fn count_before(row: &SlotRow, slots: &Slots, place: Place) -> usize
     requires { AreStored slots.now.slots row.now.row }
     ensures count { result ≡ before place_cmp place (shown slots.now.slots row.now.row) }
@@ -318,6 +319,7 @@ fn count_before(row: &SlotRow, slots: &Slots, place: Place) -> usize
 
 // How many entries stand before a place, where the numbers lie side by side. In which half it is can't
 // be foretold, so no branch is taken by it.
+#[inline(always)]
 fn count_in(numbers: &[u32], slots: &Slots, place: Place) -> usize
     requires { AreStored slots.now.slots numbers.now }
     ensures count { result ≡ before place_cmp place (shown slots.now.slots numbers.now) }
@@ -340,6 +342,7 @@ fn count_in(numbers: &[u32], slots: &Slots, place: Place) -> usize
 }
 
 // The place of the entry of a number, where the numbers lie side by side.
+#[inline(always)]
 fn place_of(numbers: &[u32], slots: &Slots, at: usize) -> Place
     requires stored { AreStored slots.now.slots numbers.now }
     requires within { at < length numbers.now }
@@ -350,6 +353,8 @@ fn place_of(numbers: &[u32], slots: &Slots, at: usize) -> Place
 
 // How many entries stand before a place, where each number is asked for. No branch is taken by what it
 // finds here either.
+#[cold]
+#[inline(never)]
 fn count_by_number(row: &SlotRow, slots: &Slots, place: Place) -> usize
     requires { AreStored slots.now.slots row.now.row }
     ensures count { result ≡ before place_cmp place (shown slots.now.slots row.now.row) }
@@ -372,6 +377,7 @@ fn count_by_number(row: &SlotRow, slots: &Slots, place: Place) -> usize
 }
 
 // Whether a place stands before another. All parts are compared, so that no branch is taken.
+#[inline(always)]
 fn is_before(place: Place, other: Place) -> bool
     ensures { result ≡ is_gt (place_cmp other place) }
 {
