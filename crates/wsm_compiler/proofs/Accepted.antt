@@ -1,6 +1,6 @@
 -- A checked query's program is accepted exactly where its ranges fit and it states enough.
-use Rattle.std.proofs.Common.{◌≡◌, ℕ, Bool, true, false, ◌&&◌, ◌||◌, not, cond, List, [], ◌∷◌, ◌++◌, Option, Some, None, refl, sym, ap, ◌∙◌, arith}
-use Rattle.std.specs.Prelude.{is_some, is_none, is_ok, option_map, nat_lt, nat_le}
+use Rattle.std.proofs.Common.{◌≡◌, ℕ, Bool, true, false, ◌&&◌, ◌||◌, not, List, [], ◌∷◌, ◌++◌, Option, refl, sym, ap, ◌∙◌, arith}
+use Rattle.std.specs.Prelude.{is_some, is_none, is_ok, nat_lt, nat_le}
 use Rattle.std.specs.List.{flat_map}
 use Rattle.std.proofs.lemmas.Bool.{and_from, and_parts}
 use Rattle.std.proofs.lemmas.List.Folds.{list_all-append}
@@ -14,7 +14,6 @@ use Rattle.wsm_record.specs.Schema.{DeclaredField}
 use Rattle.wsm_compiler.specs.Code.{test_of}
 use Rattle.wsm_check.specs.Aggregates.{Acc, accumulators, accumulators_of, in_option, fired}
 use Rattle.wsm_rules.specs.declared.rejection.Rejection.{Rejection}
-use Rattle.wsm_rules.specs.declared.rejection.Rule.{Rule}
 use Rattle.wsm_rules.specs.Costs.{needed}
 use Rattle.wsm_rules.specs.Rules.{or_then, fault_in, ranges_of_record, ranges_of_pane, update_visits, code_fault, budget_fault, fault, unless}
 use Rattle.wsm_compiler.specs.Ranges.{Range, no_number, on_intervals, of_op, of_minus, of_branches, if_fits, of_aggregate, range, fits, ranges_fit, range_on, where_true, where_false}

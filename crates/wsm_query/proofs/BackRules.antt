@@ -2,14 +2,10 @@
 use Rattle.std.proofs.Common.{◌≡◌, ℕ, Bool, true, false, List, [], ◌∷◌, ◌++◌, ℤ, neg_ℤ, refl, sym, ap, ◌∙◌, arith}
 use Rattle.std.specs.Prelude.{codes, bytes_eq}
 use Rattle.std.specs.List.{flat_map}
-use Rattle.std.specs.Cmp.Derive.{both_true}
-use Rattle.wsm_record.specs.Name.{is_name}
-use Rattle.wsm_tokens.specs.declared.fault.Fault.TheVariants.{Unexpected}
-use Rattle.wsm_tokens.specs.declared.fault.TextFault.{TextFault}
 use Rattle.wsm_tokens.specs.declared.token.Sign.{Sign}
 use Rattle.wsm_tokens.specs.declared.token.Sign.TheVariants as signs
 use Rattle.wsm_tokens.specs.Tokens.{Token, Word, Mark, Tokens, Then, sign_text}
-use Rattle.wsm_tokens.specs.Proper.{is_proper, are_proper, has_proper}
+use Rattle.wsm_tokens.specs.Proper.{are_proper, has_proper}
 use Rattle.wsm_tokens.specs.Read.{Read, Rule, Took, Stopped, ◌>>=◌, give, and_then, unexpected, begins, behind, spelling, ask, number, name}
 use Rattle.wsm_tokens.specs.Written.{put}
 use Rattle.wsm_record.specs.Schema.{FieldType, DeclaredField}

@@ -3,7 +3,6 @@ use Rattle.std.proofs.Common.{◌≡◌, ℕ, zero, suc, Bool, true, false, List
 use Rattle.std.specs.Prelude.{Option, Some, None, codes}
 use Rattle.wsm_record.specs.declared.words.Kind.{Kind}
 use Rattle.wsm_record.specs.declared.words.Kind.TheVariants.{Sum, Min, Max, Any, All}
-use Rattle.wsm_tokens.specs.declared.fault.TextFault.{TextFault}
 use Rattle.wsm_tokens.specs.declared.token.Sign.{Sign}
 use Rattle.wsm_tokens.specs.declared.token.Sign.TheVariants as signs
 use Rattle.wsm_tokens.specs.Tokens.{Token, Word, Mark, Tokens, Then, sign_text}
