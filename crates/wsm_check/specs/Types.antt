@@ -5,7 +5,9 @@ use Rattle.wsm_record.specs.declared.words.CellType.TheVariants as types
 use Rattle.wsm_record.specs.Name.{is_among}
 use Rattle.wsm_record.specs.Types.{is_type, kind_type}
 use Rattle.wsm_query.specs.declared.expr.Op.{Op}
-use Rattle.wsm_query.specs.declared.expr.Op.TheVariants.{Add, Sub, Mul, Div, Rem, Eq, Ne, Lt, Le, Gt, Ge}
+use Rattle.wsm_interval.specs.declared.Comparison.{Comparison}
+use Rattle.wsm_interval.specs.declared.Comparison.TheVariants.{Eq, Ne}
+use Rattle.wsm_query.specs.declared.expr.Op.TheVariants.{Compute, Compare}
 use Rattle.wsm_record.specs.Schema.{FieldType, DeclaredField}
 use Rattle.wsm_record.specs.Schema as field_types
 use Rattle.wsm_query.specs.Tree.{Name, Query, Expr, Number, Truth, Field, EnumName, Key, KeyName, Count, Aggregate, If, Brackets, Minus, Not, Binary, And, Or}
@@ -59,18 +61,15 @@ key_ty keys x = cond (is_among x keys) (Ok (types.Enum 0)) (Err UnknownName)
 abbrev pub two_ints : CellType → CellType → Bool
 two_ints t u = is_type t types.Int && is_type u types.Int
 
+-- equality takes two values of one type, and order two numbers
+abbrev pub are_comparable : Comparison → CellType → CellType → Bool
+are_comparable Eq t u = is_type t u
+are_comparable Ne t u = is_type t u
+are_comparable _ t u = two_ints t u
+
 abbrev pub op_ty : Op → CellType → CellType → Typed
-op_ty Add t u = wanted (two_ints t u) types.Int
-op_ty Sub t u = wanted (two_ints t u) types.Int
-op_ty Mul t u = wanted (two_ints t u) types.Int
-op_ty Div t u = wanted (two_ints t u) types.Int
-op_ty Rem t u = wanted (two_ints t u) types.Int
-op_ty Eq t u = wanted (is_type t u) types.Bool
-op_ty Ne t u = wanted (is_type t u) types.Bool
-op_ty Lt t u = wanted (two_ints t u) types.Bool
-op_ty Le t u = wanted (two_ints t u) types.Bool
-op_ty Gt t u = wanted (two_ints t u) types.Bool
-op_ty Ge t u = wanted (two_ints t u) types.Bool
+op_ty (Compute a) t u = wanted (two_ints t u) types.Int
+op_ty (Compare c) t u = wanted (are_comparable c t u) types.Bool
 
 abbrev pub logic_ty : CellType → CellType → Typed
 logic_ty t u = wanted (is_type t types.Bool && is_type u types.Bool) types.Bool

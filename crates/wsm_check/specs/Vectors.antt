@@ -4,7 +4,9 @@ use Rattle.wsm_record.specs.declared.words.Kind.TheVariants.{Sum, Any}
 use Rattle.wsm_record.specs.declared.words.Mode.TheVariants.{Discarding, Accumulating, Retracting}
 use Rattle.wsm_record.specs.declared.words.Form.TheVariants.{Panes, Istream, Dstream}
 use Rattle.wsm_windows.specs.declared.window.Shape.TheVariants.{Fixed, Sliding, Session}
-use Rattle.wsm_query.specs.declared.expr.Op.TheVariants.{Add, Eq, Gt}
+use Rattle.wsm_interval.specs.declared.Arithmetic.TheVariants.{Add}
+use Rattle.wsm_interval.specs.declared.Comparison.TheVariants.{Eq, Gt}
+use Rattle.wsm_query.specs.declared.expr.Op.TheVariants.{Compute, Compare}
 use Rattle.wsm_record.specs.Schema.{FieldType, DeclaredField}
 use Rattle.wsm_record.specs.Schema as field_types
 use Rattle.wsm_query.specs.Tree.{Query, Expr, Number, Truth, Field, EnumName, Key, KeyName, Count, Aggregate, If, Binary}
@@ -74,27 +76,27 @@ unknown_field = refl
 aggregate_in_an_aggregate : selecting (Aggregate Sum Count ∷ []) ≡ refused AggregateNested (part.Column 1)
 aggregate_in_an_aggregate = refl
 
-number_and_truth : selecting (Binary Eq (Aggregate Sum n) (Truth true) ∷ []) ≡ refused fault.Type (part.Column 1)
+number_and_truth : selecting (Binary (Compare Eq) (Aggregate Sum n) (Truth true) ∷ []) ≡ refused fault.Type (part.Column 1)
 number_and_truth = refl
 
-aggregate_in_where : filtered (Binary Gt (Aggregate Sum n) one) ≡ refused AggregateInWhere part.Where
+aggregate_in_where : filtered (Binary (Compare Gt) (Aggregate Sum n) one) ≡ refused AggregateInWhere part.Where
 aggregate_in_where = refl
 
 -- at the outer one, on the way down
-nested_in_where : filtered (Aggregate Any (Binary Gt (Aggregate Sum n) one)) ≡ refused AggregateInWhere part.Where
+nested_in_where : filtered (Aggregate Any (Binary (Compare Gt) (Aggregate Sum n) one)) ≡ refused AggregateInWhere part.Where
 nested_in_where = refl
 
 -- parts before the whole
-name_before_type : selecting (Binary Add (Truth true) m ∷ []) ≡ refused UnknownName (part.Column 1)
+name_before_type : selecting (Binary (Compute Add) (Truth true) m ∷ []) ≡ refused UnknownName (part.Column 1)
 name_before_type = refl
 
-unknown_key : selecting (Count ∷ Binary Eq Key (KeyName (codes "c")) ∷ []) ≡ refused UnknownName (part.Column 2)
+unknown_key : selecting (Count ∷ Binary (Compare Eq) Key (KeyName (codes "c")) ∷ []) ≡ refused UnknownName (part.Column 2)
 unknown_key = refl
 
 key_in_a_column : selecting (Key ∷ []) ≡ None
 key_in_a_column = refl
 
-known_key : having (Binary Eq Key (KeyName (codes "b"))) ≡ None
+known_key : having (Binary (Compare Eq) Key (KeyName (codes "b"))) ≡ None
 known_key = refl
 
 having_a_number : having one ≡ refused fault.Type part.Having
@@ -107,13 +109,13 @@ abbrev two_colors : List DeclaredField
 two_colors = field (codes "f") (field_types.Enum (codes "x" ∷ [])) ∷ field (codes "g") (field_types.Enum (codes "x" ∷ [])) ∷ []
 
 -- two fields' names are two types, also where they are the same
-names_of_two_fields : refusal (record base { fields = two_colors; columns = Count ∷ []; condition = Some (Binary Eq (Field (codes "f")) (EnumName (codes "g") (codes "x"))) }) ≡ refused fault.Type part.Where
+names_of_two_fields : refusal (record base { fields = two_colors; columns = Count ∷ []; condition = Some (Binary (Compare Eq) (Field (codes "f")) (EnumName (codes "g") (codes "x"))) }) ≡ refused fault.Type part.Where
 names_of_two_fields = refl
 
-names_of_one_field : refusal (record base { fields = two_colors; columns = Count ∷ []; condition = Some (Binary Eq (Field (codes "g")) (EnumName (codes "g") (codes "x"))) }) ≡ None
+names_of_one_field : refusal (record base { fields = two_colors; columns = Count ∷ []; condition = Some (Binary (Compare Eq) (Field (codes "g")) (EnumName (codes "g") (codes "x"))) }) ≡ None
 names_of_one_field = refl
 
-unknown_name_of_a_field : refusal (record base { fields = two_colors; columns = Count ∷ []; condition = Some (Binary Eq (Field (codes "f")) (EnumName (codes "f") (codes "y"))) }) ≡ refused UnknownName part.Where
+unknown_name_of_a_field : refusal (record base { fields = two_colors; columns = Count ∷ []; condition = Some (Binary (Compare Eq) (Field (codes "f")) (EnumName (codes "f") (codes "y"))) }) ≡ refused UnknownName part.Where
 unknown_name_of_a_field = refl
 
 -- a name of a field is no field
@@ -253,7 +255,7 @@ columns_16 = refl
 -- n sums of equal operands, which aren't shared
 abbrev sums : ℕ → Expr
 sums zero = Aggregate Sum n
-sums (suc k) = Binary Add (sums k) (Aggregate Sum n)
+sums (suc k) = Binary (Compute Add) (sums k) (Aggregate Sum n)
 
 accumulators_16 : selecting (sums 15 ∷ []) ≡ None
 accumulators_16 = refl
@@ -264,7 +266,7 @@ accumulators_17 = refl
 -- operators in their right operands, so many deep
 abbrev deep : ℕ → Expr
 deep zero = one
-deep (suc k) = Binary Add one (deep k)
+deep (suc k) = Binary (Compute Add) one (deep k)
 
 stack_of_32 : selecting (deep 31 ∷ []) ≡ None
 stack_of_32 = refl

@@ -3,10 +3,10 @@
 ghost use Rattle.std.specs.Prelude.{◌≡◌, ◌<◌};
 ghost use Rattle.wsm_record.specs.Fields.{type_seen};
 ghost use Rattle.wsm_check.specs.Types as rule;
-ghost use Rattle.wsm_check.specs.Types.{choice_ty, logic_ty, op_ty, wanted};
+ghost use Rattle.wsm_check.specs.Types.{choice_ty, logic_ty, op_ty, two_ints, wanted};
 
 use crate::refusal::CheckFault;
-use wsm_query::Op;
+use wsm_query::{Comparison, Op};
 use wsm_record::limits::MAX_FIELDS;
 use wsm_record::{CellType, FieldType};
 
@@ -51,12 +51,29 @@ pub fn type_of_logic(left: CellType, right: CellType) -> Result<CellType, CheckF
 pub fn type_of_op(op: Op, left: CellType, right: CellType) -> Result<CellType, CheckFault>
     ensures { result ≡ op_ty op left right }
 {
-    let are_numbers = left == CellType::Int && right == CellType::Int;
     match op {
-        Op::Add | Op::Sub | Op::Mul | Op::Div | Op::Rem => want(are_numbers, CellType::Int),
-        Op::Eq | Op::Ne => want(left == right, CellType::Bool),
-        Op::Lt | Op::Le | Op::Gt | Op::Ge => want(are_numbers, CellType::Bool),
+        Op::Compute(_) => want(are_numbers(left, right), CellType::Int),
+        Op::Compare(comparison) => want(are_comparable(comparison, left, right), CellType::Bool),
     }
+}
+
+// Whether values of these types may be compared so: equality takes two of one type, and order two
+// numbers.
+fn are_comparable(comparison: Comparison, left: CellType, right: CellType) -> bool
+    ensures { result ≡ rule.are_comparable comparison left right }
+{
+    match comparison {
+        Comparison::Eq | Comparison::Ne => left == right,
+        Comparison::Lt | Comparison::Le | Comparison::Gt | Comparison::Ge => {
+            are_numbers(left, right)
+        }
+    }
+}
+
+fn are_numbers(left: CellType, right: CellType) -> bool
+    ensures { result ≡ two_ints left right }
+{
+    left == CellType::Int && right == CellType::Int
 }
 
 /// The type of the values of a field.

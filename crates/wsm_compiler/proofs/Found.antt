@@ -7,10 +7,10 @@ use Rattle.wsm_interval.specs.Interval.{interval, div, rem}
 use Rattle.wsm_program.specs.declared.instr.FieldTest.{FieldTest}
 use Rattle.wsm_program.specs.declared.instr.Instr.{Instr}
 use Rattle.wsm_program.specs.declared.instr.Instr.TheVariants as instr
-use Rattle.wsm_interval.specs.declared.arithmetic.Arithmetic.TheVariants as arithmetics
-use Rattle.wsm_interval.specs.declared.comparison.Comparison.TheVariants as comparisons
+use Rattle.wsm_interval.specs.declared.Arithmetic.TheVariants.{Div, Rem}
+use Rattle.wsm_interval.specs.declared.Comparison.TheVariants.{Eq}
 use Rattle.wsm_query.specs.declared.expr.Op.{Op}
-use Rattle.wsm_query.specs.declared.expr.Op.TheVariants.{Add, Sub, Mul, Div, Rem, Eq, Ne, Lt, Le, Gt, Ge}
+use Rattle.wsm_query.specs.declared.expr.Op.TheVariants as ops
 use Rattle.wsm_query.specs.Tree.{Query, Expr, Number, Truth, Field, EnumName, Key, KeyName, Count, Aggregate, If, Brackets, Minus, Not, Binary, And, Or}
 use Rattle.wsm_check.specs.Names.{place_of, field_place, type_of, names_of}
 use Rattle.wsm_check.specs.Aggregates.{aggregates}
@@ -121,17 +121,11 @@ module _ (e : State) (c : Setting) (k : ℕ) (s : State) (room : length s.stack 
   make_not v = acting e c k instr.Not (v ∷ []) s _ _ refl refl refl refl (λ h. no h) room more
 
   pub make_op : (op : Op) (u v : Known) → Makes (instruction op) (v ∷ u ∷ [])
-  make_op Add u v = acting e c k (instr.Compute arithmetics.Add) (v ∷ u ∷ []) s _ _ refl refl refl (two_alone _ v u s.stack) (λ h. no h) room more
-  make_op Sub u v = acting e c k (instr.Compute arithmetics.Sub) (v ∷ u ∷ []) s _ _ refl refl refl (two_alone _ v u s.stack) (λ h. no h) room more
-  make_op Mul u v = acting e c k (instr.Compute arithmetics.Mul) (v ∷ u ∷ []) s _ _ refl refl refl (two_alone _ v u s.stack) (λ h. no h) room more
-  make_op Div u v = acting e c k (instr.Compute arithmetics.Div) (v ∷ u ∷ []) s _ _ refl refl refl (two_alone _ v u s.stack) (zero_div v u) room more
-  make_op Rem u v = acting e c k (instr.Compute arithmetics.Rem) (v ∷ u ∷ []) s _ _ refl refl refl (two_alone _ v u s.stack) (zero_rem v u) room more
-  make_op Eq u v = acting e c k (instr.Compare comparisons.Eq) (v ∷ u ∷ []) s _ _ refl refl refl refl (λ h. no h) room more
-  make_op Ne u v = acting e c k (instr.Compare comparisons.Ne) (v ∷ u ∷ []) s _ _ refl refl refl refl (λ h. no h) room more
-  make_op Lt u v = acting e c k (instr.Compare comparisons.Lt) (v ∷ u ∷ []) s _ _ refl refl refl refl (λ h. no h) room more
-  make_op Le u v = acting e c k (instr.Compare comparisons.Le) (v ∷ u ∷ []) s _ _ refl refl refl refl (λ h. no h) room more
-  make_op Gt u v = acting e c k (instr.Compare comparisons.Gt) (v ∷ u ∷ []) s _ _ refl refl refl refl (λ h. no h) room more
-  make_op Ge u v = acting e c k (instr.Compare comparisons.Ge) (v ∷ u ∷ []) s _ _ refl refl refl refl (λ h. no h) room more
+  make_op (ops.Compute Div) u v = acting e c k (instr.Compute Div) (v ∷ u ∷ []) s _ _ refl refl refl (two_alone _ v u s.stack) (zero_div v u) room more
+  make_op (ops.Compute Rem) u v = acting e c k (instr.Compute Rem) (v ∷ u ∷ []) s _ _ refl refl refl (two_alone _ v u s.stack) (zero_rem v u) room more
+  make_op (ops.Compute a) u v = acting e c k (instr.Compute a) (v ∷ u ∷ []) s _ _ refl refl refl (two_alone _ v u s.stack) (λ h. no h) room more
+  make_op (ops.Compare Eq) u v = acting e c k (instr.Compare Eq) (v ∷ u ∷ []) s _ _ refl refl refl refl (λ h. no h) room more
+  make_op (ops.Compare d) u v = acting e c k (instr.Compare d) (v ∷ u ∷ []) s _ _ refl refl refl refl (λ h. no h) room more
 
 -- a part of n places that pushes a value, and what follows it
 pub follow : (e : State) (c : Setting) (k n : ℕ) (is js : List Instr) (s : State) (o : Option Known) (f : Known → Option State) → length is ≡ n → 0 < length is → 0 < length js →

@@ -1,5 +1,5 @@
 -- What the verifier finds of an expression is its range, in its type.
-use Rattle.std.proofs.Common.{◌≡◌, Bool, true, false, ◌&&◌, not, cond, [], ◌∷◌, Option, Some, None, Result, Ok, Err, refl, ap, ◌∙◌, arith}
+use Rattle.std.proofs.Common.{◌≡◌, Bool, true, false, not, cond, [], ◌∷◌, Option, Some, None, Result, Ok, Err, refl, ap, ◌∙◌, arith}
 use Rattle.std.specs.Prelude.{option_map}
 use Rattle.std.proofs.lemmas.Bool.{eqb-true}
 use Rattle.wsm_interval.specs.declared.interval.Interval.{Interval}
@@ -7,11 +7,11 @@ use Rattle.wsm_interval.specs.Interval.{neg}
 use Rattle.wsm_program.specs.declared.instr.Instr.{Instr}
 use Rattle.wsm_program.specs.declared.instr.Instr.TheVariants as instr
 use Rattle.wsm_query.specs.declared.expr.Op.{Op}
-use Rattle.wsm_query.specs.declared.expr.Op.TheVariants.{Add, Sub, Mul, Div, Rem, Eq, Ne}
+use Rattle.wsm_query.specs.declared.expr.Op.TheVariants.{Compute, Compare}
 use Rattle.wsm_record.specs.declared.words.CellType.{CellType}
 use Rattle.wsm_record.specs.declared.words.CellType.TheVariants as types
 use Rattle.wsm_record.specs.Types.{is_type}
-use Rattle.wsm_check.specs.Types.{Typed, wanted, if_typed}
+use Rattle.wsm_check.specs.Types.{Typed, wanted, if_typed, two_ints, are_comparable}
 use Rattle.wsm_rules.specs.declared.known.Known.{Known}
 use Rattle.wsm_rules.specs.declared.known.Known.TheVariants as known
 use Rattle.wsm_rules.specs.Labels.{same_type}
@@ -148,7 +148,7 @@ of_same c i is t x y h l = grind (arith, same_type_is, type_known, type_self)
 abbrev pub OpFound : Setting → Op → CellType → CellType → CellType → Range → Range → Type 0
 OpFound c op t u w r p = (Two c (instruction op) (known_of t r) (known_of u p) ≡ known_of w (of_op op r p)) × (suits w (of_op op r p) ≡ true)
 
-two_numbers : (c : Setting) (op : Op) (t u w : CellType) (r p : Range) → (is_type t types.Int && is_type u types.Int) ≡ true → suits t r ≡ true → suits u p ≡ true →
+two_numbers : (c : Setting) (op : Op) (t u w : CellType) (r p : Range) → two_ints t u ≡ true → suits t r ≡ true → suits u p ≡ true →
     (suits types.Int r ≡ true → suits types.Int p ≡ true → OpFound c op types.Int types.Int w r p) → OpFound c op t u w r p
 two_numbers c op t u w r p h l m go = grind (arith, ty_is)
 
@@ -157,17 +157,12 @@ two_alike c op t u w r p h l m go = grind (arith, ty_is)
 
 -- the types that an operator takes, and the one that it gives
 abbrev pub op_typed : Op → CellType → CellType → Bool
-op_typed Eq t u = is_type t u
-op_typed Ne t u = is_type t u
-op_typed op t u = is_type t types.Int && is_type u types.Int
+op_typed (Compute a) t u = two_ints t u
+op_typed (Compare d) t u = are_comparable d t u
 
 abbrev pub result_of : Op → CellType
-result_of Add = types.Int
-result_of Sub = types.Int
-result_of Mul = types.Int
-result_of Div = types.Int
-result_of Rem = types.Int
-result_of op = types.Bool
+result_of (Compute a) = types.Int
+result_of (Compare d) = types.Bool
 
 -- an operator on two parts whose values are told of by their ranges
 pub op_found : (c : Setting) (op : Op) (t u w : CellType) (r p : Range) → op_typed op t u ≡ true → result_of op ≡ w → suits t r ≡ true → suits u p ≡ true → OpFound c op t u w r p

@@ -15,7 +15,7 @@ use Rattle.wsm_rules.specs.declared.known.Known.TheVariants as known
 use Rattle.wsm_rules.specs.Labels.{narrowed_known}
 use Rattle.wsm_rules.specs.Rules.{and_then, known_field, known_fields}
 use Rattle.wsm_query.specs.declared.expr.Op.{Op}
-use Rattle.wsm_query.specs.declared.expr.Op.TheVariants.{Add, Sub, Mul, Div, Rem}
+use Rattle.wsm_query.specs.declared.expr.Op.TheVariants.{Compute, Compare}
 use Rattle.wsm_query.specs.Tree.{Name, Query, Expr, Binary}
 use Rattle.wsm_check.specs.declared.refusal.CheckFault.{CheckFault}
 use Rattle.wsm_check.specs.Names.{place_of, field_names, field_place, type_of}
@@ -155,12 +155,8 @@ both_fit : (r p : Range) → fits r ≡ true → fits p ≡ true → fits (no_nu
 both_fit r p h l = grind arith
 
 compared : (q : Query) (ds : List DeclaredField) (x y : Expr) (op : Op) (o : Comparison) → comparison_of op ≡ Some o → fits (range_on q ds x) ≡ true → fits (range_on q ds y) ≡ true → fits (range_on q ds (Binary op x y)) ≡ true
-compared q ds x y Add o e a b = none≢some e
-compared q ds x y Sub o e a b = none≢some e
-compared q ds x y Mul o e a b = none≢some e
-compared q ds x y Div o e a b = none≢some e
-compared q ds x y Rem o e a b = none≢some e
-compared q ds x y op o e a b = both_fit (range_on q ds x) (range_on q ds y) a b
+compared q ds x y (Compute c) o e a b = none≢some e
+compared q ds x y (Compare d) o e a b = both_fit (range_on q ds x) (range_on q ds y) a b
 
 pub tested_fits : (q : Query) (ds : List DeclaredField) (a : ℕ) (e : Expr) (t : FieldTest) → test_of q a e ≡ Some t → fits (range_on q ds e) ≡ true
 tested_fits q ds a e t h =

@@ -1,6 +1,6 @@
 -- What an expression means, in whole numbers without bound: no stack, no jumps, no width. It is partial, and AND, OR and IF
 -- evaluate only what they need.
-use Rattle.std.specs.Prelude.{ℕ, ◌+◌, Bool, true, false, not, cond, List, [], ◌∷◌, ◌++◌, length, map, ℤ, pos, ◌+ℤ◌, ◌-ℤ◌, ◌*ℤ◌, neg_ℤ, int_lt, int_le, int_div, int_rem, nat_eq, Option, Some, None, option_map, slice_get}
+use Rattle.std.specs.Prelude.{ℕ, ◌+◌, Bool, true, false, not, cond, List, [], ◌∷◌, ◌++◌, length, map, ℤ, pos, neg_ℤ, int_div, int_rem, nat_eq, Option, Some, None, option_map, slice_get}
 use Rattle.std.specs.List.{list_all}
 use Rattle.std.specs.Ordering.{int_eq}
 use Rattle.wsm_record.specs.declared.event.Value.{Value}
@@ -11,7 +11,11 @@ use Rattle.wsm_record.specs.declared.words.Kind.{Kind}
 use Rattle.wsm_record.specs.Schema.{is_i64}
 use Rattle.wsm_fold.specs.Fold.{fold_of}
 use Rattle.wsm_query.specs.declared.expr.Op.{Op}
-use Rattle.wsm_query.specs.declared.expr.Op.TheVariants.{Add, Sub, Mul, Div, Rem, Eq, Ne, Lt, Le, Gt, Ge}
+use Rattle.wsm_interval.specs.Arithmetic.{result_of}
+use Rattle.wsm_interval.specs.Comparison as comparison
+use Rattle.wsm_interval.specs.declared.Arithmetic.TheVariants.{Div, Rem}
+use Rattle.wsm_interval.specs.declared.Comparison.TheVariants.{Eq, Ne}
+use Rattle.wsm_query.specs.declared.expr.Op.TheVariants.{Compute, Compare}
 use Rattle.wsm_query.specs.Tree.{Query, Expr, Number, Truth, Field, EnumName, Key, KeyName, Count, Aggregate, If, Brackets, Minus, Not, Binary, And, Or}
 use Rattle.wsm_check.specs.Names.{place_of, field_place, type_of, names_of}
 use Rattle.wsm_check.specs.Aggregates.{aggregates}
@@ -19,22 +23,15 @@ use Rattle.wsm_check.specs.Parts.{column_type}
 
 -- an operator on two numbers, with no value at a zero divisor
 abbrev pub on_numbers : Op → ℤ → ℤ → Option Value
-on_numbers Add x y = Some (Int (x +ℤ y))
-on_numbers Sub x y = Some (Int (x -ℤ y))
-on_numbers Mul x y = Some (Int (x *ℤ y))
-on_numbers Div x y = cond (int_eq y (pos 0)) None (Some (Int (int_div x y)))
-on_numbers Rem x y = cond (int_eq y (pos 0)) None (Some (Int (int_rem x y)))
-on_numbers Eq x y = Some (Truth' (int_eq x y))
-on_numbers Ne x y = Some (Truth' (not (int_eq x y)))
-on_numbers Lt x y = Some (Truth' (int_lt x y))
-on_numbers Le x y = Some (Truth' (int_le x y))
-on_numbers Gt x y = Some (Truth' (int_lt y x))
-on_numbers Ge x y = Some (Truth' (int_le y x))
+on_numbers (Compute Div) x y = cond (int_eq y (pos 0)) None (Some (Int (int_div x y)))
+on_numbers (Compute Rem) x y = cond (int_eq y (pos 0)) None (Some (Int (int_rem x y)))
+on_numbers (Compute a) x y = Some (Int (result_of a x y))
+on_numbers (Compare c) x y = Some (Truth' (comparison.is_true c x y))
 
 -- of two values that are no numbers: whether they are the same, or not
 abbrev pub on_same : Op → Bool → Option Value
-on_same Eq b = Some (Truth' b)
-on_same Ne b = Some (Truth' (not b))
+on_same (Compare Eq) b = Some (Truth' b)
+on_same (Compare Ne) b = Some (Truth' (not b))
 on_same _ b = None
 
 abbrev pub same_truth : Bool → Bool → Bool

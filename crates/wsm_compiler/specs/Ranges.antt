@@ -7,10 +7,10 @@ use Rattle.wsm_record.specs.declared.words.Kind.TheVariants.{Sum, Min, Max}
 use Rattle.wsm_interval.specs.declared.interval.Interval.{Interval}
 use Rattle.wsm_interval.specs.declared.Comparison.{Comparison}
 use Rattle.wsm_interval.specs.Comparison.{opposite}
-use Rattle.wsm_interval.specs.Interval.{interval, add, sub, mul, div, rem, neg, hull}
+use Rattle.wsm_interval.specs.Interval.{interval, computed, neg, hull}
 use Rattle.wsm_interval.specs.Narrowing.{narrow}
 use Rattle.wsm_query.specs.declared.expr.Op.{Op}
-use Rattle.wsm_query.specs.declared.expr.Op.TheVariants.{Add, Sub, Mul, Div, Rem}
+use Rattle.wsm_query.specs.declared.expr.Op.TheVariants.{Compute, Compare}
 use Rattle.wsm_record.specs.Schema.{FieldType, DeclaredField, is_i64}
 use Rattle.wsm_record.specs.Schema as field_types
 use Rattle.wsm_program.specs.declared.instr.FieldTest.{FieldTest}
@@ -40,12 +40,8 @@ on_intervals f (Within x) (Within y) = within (f x y)
 on_intervals f x y = no_number x y
 
 abbrev pub of_op : Op → Range → Range → Range
-of_op Add x y = on_intervals add x y
-of_op Sub x y = on_intervals sub x y
-of_op Mul x y = on_intervals mul x y
-of_op Div x y = on_intervals div x y
-of_op Rem x y = on_intervals rem x y
-of_op _ x y = no_number x y
+of_op (Compute a) x y = on_intervals (computed a) x y
+of_op (Compare c) x y = no_number x y
 
 abbrev pub of_minus : Range → Range
 of_minus (Within x) = within (neg x)

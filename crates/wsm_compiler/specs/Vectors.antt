@@ -6,7 +6,9 @@ use Rattle.wsm_record.specs.declared.words.Kind.TheVariants.{Sum, Min, Max}
 use Rattle.wsm_record.specs.declared.words.Mode.TheVariants.{Accumulating, Retracting}
 use Rattle.wsm_record.specs.declared.words.Form.TheVariants.{Panes}
 use Rattle.wsm_windows.specs.declared.window.Shape.TheVariants.{Fixed, Sliding}
-use Rattle.wsm_query.specs.declared.expr.Op.TheVariants.{Add, Sub, Div, Rem, Ne, Gt, Lt}
+use Rattle.wsm_interval.specs.declared.Arithmetic.TheVariants.{Add, Sub, Div, Rem}
+use Rattle.wsm_interval.specs.declared.Comparison.TheVariants.{Ne, Gt, Lt}
+use Rattle.wsm_query.specs.declared.expr.Op.TheVariants.{Compute, Compare}
 use Rattle.wsm_interval.specs.declared.Comparison.TheVariants as compare
 use Rattle.wsm_record.specs.Schema as field_types
 use Rattle.wsm_query.specs.Tree.{Query, Expr, Number, Truth, Field, Count, Aggregate, If, Minus, Binary, And}
@@ -94,7 +96,7 @@ base_is_accepted = record { checked = refl; spelt = record { keys = refl; fields
 
 -- a number without 64 bits is no operand
 abbrev past_a_word : Query
-past_a_word = record base { condition = Some (Binary Gt n (Number (pos 9223372036854775808))) }
+past_a_word = record base { condition = Some (Binary (Compare Gt) n (Number (pos 9223372036854775808))) }
 
 past_a_word_unlawful : is_program (program_of past_a_word) ≡ false
 unfolding is_program is_header is_section is_schema is_reserved
@@ -106,11 +108,11 @@ base_accepted = refl
 sliding : judge (program_of (record base { output = record base.output { shape = Sliding (pos 60) (pos 25) } })) ≡ costs 11 4 14
 sliding = refl
 
-average : judge (program_of (record base { columns = Binary Div (Aggregate Sum n) Count ∷ [] })) ≡ costs 5 5 6
+average : judge (program_of (record base { columns = Binary (Compute Div) (Aggregate Sum n) Count ∷ [] })) ≡ costs 5 5 6
 average = refl
 
 abbrev by_sum : Query
-by_sum = record base { columns = Binary Div (Number (pos 100)) (Aggregate Sum n) ∷ [] }
+by_sum = record base { columns = Binary (Compute Div) (Number (pos 100)) (Aggregate Sum n) ∷ [] }
 
 by_sum_rejected : judge (program_of by_sum) ≡ Err (record { part = Code Fire; place = 2; rule = MayDivideByZero })
 by_sum_rejected = refl
@@ -132,7 +134,7 @@ base_fits = refl
 
 -- `n <> 0 AND 10 / n > 1`
 abbrev guarded : Query
-guarded = record base { condition = Some (And (Binary Ne n (Number (pos 0))) (Binary Gt (Binary Div (Number (pos 10)) n) (Number (pos 1)))) }
+guarded = record base { condition = Some (And (Binary (Compare Ne) n (Number (pos 0))) (Binary (Compare Gt) (Binary (Compute Div) (Number (pos 10)) n) (Number (pos 1)))) }
 
 guarded_where : where_section guarded ≡ instr.Test (record { field = 0; comparison = compare.Ne; number = pos 0 }) 7 ∷ instr.PushInt (pos 10) ∷ instr.Field 0 ∷ instr.Compute arithmetics.Div ∷ instr.PushInt (pos 1) ∷ instr.Compare compare.Gt ∷ instr.Jump 8 ∷ instr.PushBool false ∷ instr.Return ∷ []
 guarded_where = refl
@@ -149,7 +151,7 @@ guarded_run : run (program_of guarded) Where (record { key = 0; values = value.I
 guarded_run = refl
 
 -- a condition with two accumulators, numbered from the left behind those of the columns
-two_accumulators : fire_section (record base { having = Some (Binary Lt (Aggregate Min n) (Aggregate Max n)) }) ≡ instr.Count ∷ instr.Acc 0 ∷ instr.Acc 1 ∷ instr.Acc 2 ∷ instr.Compare compare.Lt ∷ instr.Return ∷ []
+two_accumulators : fire_section (record base { having = Some (Binary (Compare Lt) (Aggregate Min n) (Aggregate Max n)) }) ≡ instr.Count ∷ instr.Acc 0 ∷ instr.Acc 1 ∷ instr.Acc 2 ∷ instr.Compare compare.Lt ∷ instr.Return ∷ []
 two_accumulators = refl
 
 -- ---- meanings
@@ -159,7 +161,7 @@ base_row : row base 0 ((value.Int (pos 7) ∷ []) ∷ (value.Int (pos 3) ∷ [])
 base_row = refl
 
 -- no row where HAVING is false
-having_row : row (record base { having = Some (Binary Gt (Aggregate Sum n) (Number (pos 5))) }) 0 ((value.Int (pos 5) ∷ []) ∷ []) ≡ None
+having_row : row (record base { having = Some (Binary (Compare Gt) (Aggregate Sum n) (Number (pos 5))) }) 0 ((value.Int (pos 5) ∷ []) ∷ []) ≡ None
 having_row = refl
 
 guarded_at_0 : selects guarded 0 (value.Int (pos 0) ∷ []) ≡ false
@@ -172,28 +174,28 @@ guarded_at_3 = refl
 abbrev at : ℤ → Expr → Option Value
 at n e = meaning base (on_record 0 (value.Int n ∷ [])) e
 
-no_value_at_0 : at (pos 0) (Binary Div (Number (pos 10)) n) ≡ None
+no_value_at_0 : at (pos 0) (Binary (Compute Div) (Number (pos 10)) n) ≡ None
 no_value_at_0 = refl
 
-toward_zero : at (negsuc 6) (Binary Div n (Number (pos 2))) ≡ Some (value.Int (negsuc 2))
+toward_zero : at (negsuc 6) (Binary (Compute Div) n (Number (pos 2))) ≡ Some (value.Int (negsuc 2))
 toward_zero = refl
 
-sign_of_dividend : at (negsuc 6) (Binary Rem n (Number (pos 2))) ≡ Some (value.Int (negsuc 0))
+sign_of_dividend : at (negsuc 6) (Binary (Compute Rem) n (Number (pos 2))) ≡ Some (value.Int (negsuc 0))
 sign_of_dividend = refl
 
-least_by_minus_one : at (negsuc 9223372036854775807) (Binary Rem n (Minus (Number (pos 1)))) ≡ Some (value.Int (pos 0))
+least_by_minus_one : at (negsuc 9223372036854775807) (Binary (Compute Rem) n (Minus (Number (pos 1)))) ≡ Some (value.Int (pos 0))
 least_by_minus_one = refl
 
 abbrev greatest : ℤ
 greatest = pos 9223372036854775807
 
 -- a value in 64 bits, though a number on the way isn't
-past_i64 : at greatest (Binary Sub (Binary Add n (Number (pos 1))) (Number (pos 1))) ≡ Some (value.Int greatest)
+past_i64 : at greatest (Binary (Compute Sub) (Binary (Compute Add) n (Number (pos 1))) (Number (pos 1))) ≡ Some (value.Int greatest)
 past_i64 = refl
 
-past_i64_is_met : meets_i64 base (on_record 0 (value.Int greatest ∷ [])) 0 (Binary Sub (Binary Add n (Number (pos 1))) (Number (pos 1))) ≡ false
+past_i64_is_met : meets_i64 base (on_record 0 (value.Int greatest ∷ [])) 0 (Binary (Compute Sub) (Binary (Compute Add) n (Number (pos 1))) (Number (pos 1))) ≡ false
 past_i64_is_met = refl
 
 -- the branch that isn't taken meets nothing
-untaken_branch : meets_i64 base (on_record 0 (value.Int greatest ∷ [])) 0 (If (Truth false) (Binary Add n (Number (pos 1))) (Number (pos 1))) ≡ true
+untaken_branch : meets_i64 base (on_record 0 (value.Int greatest ∷ [])) 0 (If (Truth false) (Binary (Compute Add) n (Number (pos 1))) (Number (pos 1))) ≡ true
 untaken_branch = refl

@@ -15,7 +15,9 @@ use Rattle.wsm_query.specs.declared.expr.Op.{Op}
 use Rattle.wsm_admission.specs.declared.clock.Clock.{Clock}
 use Rattle.wsm_query.specs.declared.query.Budget.{Budget}
 use Rattle.wsm_query.specs.declared.query.Output.{Output}
-use Rattle.wsm_query.specs.declared.expr.Op.TheVariants.{Add, Sub, Mul, Div, Rem, Eq, Ne, Lt, Le, Gt, Ge}
+use Rattle.wsm_interval.specs.declared.Arithmetic.TheVariants.{Add, Sub, Mul, Div, Rem}
+use Rattle.wsm_interval.specs.declared.Comparison.TheVariants.{Eq, Ne, Lt, Le, Gt, Ge}
+use Rattle.wsm_query.specs.declared.expr.Op.TheVariants.{Compute, Compare}
 use Rattle.wsm_record.specs.Schema.{FieldType, DeclaredField}
 use Rattle.wsm_record.specs.Schema as field_types
 use Rattle.wsm_query.specs.Tree.{Name, Query, Selection, Expr, Number, Truth, Field, EnumName, Key, KeyName, Count, Aggregate, If, Brackets, Minus, Not, Binary, And, Or}
@@ -172,14 +174,14 @@ abbrev pub binary : Op → Expr → Expr → Expr
 binary op x y = Binary op x y
 
 abbrev pub products : List (List ℕ × (Expr → Expr → Expr))
-products = (codes "*", Binary Mul) ∷ (codes "/", Binary Div) ∷ (codes "%", Binary Rem) ∷ []
+products = (codes "*", Binary (Compute Mul)) ∷ (codes "/", Binary (Compute Div)) ∷ (codes "%", Binary (Compute Rem)) ∷ []
 
 abbrev pub sums : List (List ℕ × (Expr → Expr → Expr))
-sums = (codes "+", Binary Add) ∷ (codes "-", Binary Sub) ∷ []
+sums = (codes "+", Binary (Compute Add)) ∷ (codes "-", Binary (Compute Sub)) ∷ []
 
 abbrev pub comparisons : List (List ℕ × (Expr → Expr → Expr))
 comparisons =
-    (codes "=", Binary Eq) ∷ (codes "<>", Binary Ne) ∷ (codes "<", Binary Lt) ∷ (codes "<=", Binary Le) ∷ (codes ">", Binary Gt) ∷ (codes ">=", Binary Ge) ∷ []
+    (codes "=", Binary (Compare Eq)) ∷ (codes "<>", Binary (Compare Ne)) ∷ (codes "<", Binary (Compare Lt)) ∷ (codes "<=", Binary (Compare Le)) ∷ (codes ">", Binary (Compare Gt)) ∷ (codes ">=", Binary (Compare Ge)) ∷ []
 
 abbrev pub ands : List (List ℕ × (Expr → Expr → Expr))
 ands = (codes "AND", And) ∷ []

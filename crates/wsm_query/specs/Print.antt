@@ -17,7 +17,9 @@ use Rattle.wsm_admission.specs.declared.clock.Clock.{Clock}
 use Rattle.wsm_query.specs.declared.expr.Op.{Op}
 use Rattle.wsm_query.specs.declared.query.Budget.{Budget}
 use Rattle.wsm_query.specs.declared.query.Output.{Output}
-use Rattle.wsm_query.specs.declared.expr.Op.TheVariants.{Add, Sub, Mul, Div, Rem, Eq, Ne, Lt, Le, Gt, Ge}
+use Rattle.wsm_interval.specs.declared.Arithmetic.TheVariants.{Add, Sub, Mul, Div, Rem}
+use Rattle.wsm_interval.specs.declared.Comparison.TheVariants.{Eq, Ne, Lt, Le, Gt, Ge}
+use Rattle.wsm_query.specs.declared.expr.Op.TheVariants.{Compute, Compare}
 use Rattle.wsm_record.specs.Schema.{FieldType, DeclaredField}
 use Rattle.wsm_record.specs.Schema as field_types
 use Rattle.wsm_query.specs.Tree.{Name, Query, Expr, Number, Truth, Field, EnumName, Key, KeyName, Count, Aggregate, If, Brackets, Minus, Not, Binary, And, Or}
@@ -28,17 +30,17 @@ figures (pos n) = Figure (pos n) ∷ []
 figures (negsuc n) = Mark signs.Minus ∷ Figure (pos (suc n)) ∷ []
 
 abbrev pub op_sign : Op → Sign
-op_sign Add = signs.Plus
-op_sign Sub = signs.Minus
-op_sign Mul = signs.Star
-op_sign Div = signs.Slash
-op_sign Rem = signs.Percent
-op_sign Eq = signs.Equal
-op_sign Ne = signs.NotEqual
-op_sign Lt = signs.Less
-op_sign Le = signs.LessOrEqual
-op_sign Gt = signs.Greater
-op_sign Ge = signs.GreaterOrEqual
+op_sign (Compute Add) = signs.Plus
+op_sign (Compute Sub) = signs.Minus
+op_sign (Compute Mul) = signs.Star
+op_sign (Compute Div) = signs.Slash
+op_sign (Compute Rem) = signs.Percent
+op_sign (Compare Eq) = signs.Equal
+op_sign (Compare Ne) = signs.NotEqual
+op_sign (Compare Lt) = signs.Less
+op_sign (Compare Le) = signs.LessOrEqual
+op_sign (Compare Gt) = signs.Greater
+op_sign (Compare Ge) = signs.GreaterOrEqual
 
 abbrev pub kind_word : Kind → List ℕ
 kind_word Sum = codes "SUM"

@@ -13,7 +13,9 @@ use Rattle.wsm_tokens.specs.declared.fault.ParseRefusal.TheVariants as refusals
 use Rattle.wsm_tokens.specs.Position.{position_of}
 use Rattle.wsm_tokens.specs.Tokens.{tokens, tokens_from, first_of, sign_of}
 use Rattle.wsm_tokens.specs.Read.{unexpected, too_deep, begins, begins_number, is_end, behind, count, ask, number, name, ended}
-use Rattle.wsm_query.specs.declared.expr.Op.TheVariants.{Sub, Ne, Gt, Div}
+use Rattle.wsm_interval.specs.declared.Arithmetic.TheVariants.{Sub, Div}
+use Rattle.wsm_interval.specs.declared.Comparison.TheVariants.{Ne, Gt}
+use Rattle.wsm_query.specs.declared.expr.Op.TheVariants.{Compute, Compare}
 use Rattle.wsm_record.specs.Schema as field_types
 use Rattle.wsm_query.specs.Tree.{Query, Number, Field, Count, Aggregate, Brackets, Binary, And}
 use Rattle.wsm_query.specs.Grammar.{brace, list_of, aggregate, count_of, choice, brackets, pointed, leaf, atom, unary, chain, chained, prod, sum, cmp, neg, conj, expr_in, levels, expr, int, names, type_of, field, sources, from_window, budget, clock, selection, output, shape, mode, form, every, query}
@@ -64,15 +66,15 @@ times (suc n) bytes = bytes ++ times n bytes
 
 -- `n <> 0 AND 10 / n > 1`
 abbrev guarded : Query
-guarded = record base { condition = Some (And (Binary Ne (Field (codes "n")) (Number (pos 0))) (Binary Gt (Binary Div (Number (pos 10)) (Field (codes "n"))) (Number (pos 1)))) }
+guarded = record base { condition = Some (And (Binary (Compare Ne) (Field (codes "n")) (Number (pos 0))) (Binary (Compare Gt) (Binary (Compute Div) (Number (pos 10)) (Field (codes "n"))) (Number (pos 1)))) }
 
 -- columns of the base query, and its tree with them
 abbrev trees : List (List ℕ × Result Query ParseRefusal)
 trees =
     (codes "COUNT(*), SUM(n)", Ok base)
     ∷ (codes "COUNT(*), SUM(n) WHERE n <> 0 AND 10 / n > 1", Ok guarded)
-    ∷ (codes "7 - 2 - 1", Ok (record base { columns = Binary Sub (Binary Sub (Number (pos 7)) (Number (pos 2))) (Number (pos 1)) ∷ [] }))
-    ∷ (codes "7-(2-1)", Ok (record base { columns = Binary Sub (Number (pos 7)) (Brackets (Binary Sub (Number (pos 2)) (Number (pos 1)))) ∷ [] }))
+    ∷ (codes "7 - 2 - 1", Ok (record base { columns = Binary (Compute Sub) (Binary (Compute Sub) (Number (pos 7)) (Number (pos 2))) (Number (pos 1)) ∷ [] }))
+    ∷ (codes "7-(2-1)", Ok (record base { columns = Binary (Compute Sub) (Number (pos 7)) (Brackets (Binary (Compute Sub) (Number (pos 2)) (Number (pos 1)))) ∷ [] }))
     ∷ []
 
 trees_read : map (λ t. (t.0, parse (selecting t.0))) trees ≡ trees

@@ -1,32 +1,15 @@
 //! The tree of an expression.
 
+use wsm_interval::{Arithmetic, Comparison};
 use wsm_record::{Kind, Name};
 
 /// The operators whose two operands are always evaluated.
 #[derive(Clone, Copy, Debug, PartialEq, Eq)]
 pub enum Op {
-    /// The sum, `+`.
-    Add,
-    /// The difference, `-`.
-    Sub,
-    /// The product, `*`.
-    Mul,
-    /// The quotient truncated toward 0, `/`.
-    Div,
-    /// What that quotient leaves, with the sign of the left operand, `%`.
-    Rem,
-    /// Whether both are the same, `=`.
-    Eq,
-    /// Whether they differ, `<>`.
-    Ne,
-    /// Whether the left is less, `<`.
-    Lt,
-    /// Whether the left is at most the right, `<=`.
-    Le,
-    /// Whether the left is greater, `>`.
-    Gt,
-    /// Whether the left is at least the right, `>=`.
-    Ge,
+    /// `+`, `-`, `*`, `/` or `%`, which give a number.
+    Compute(Arithmetic),
+    /// `=`, `<>`, `<`, `<=`, `>` or `>=`, which give a truth.
+    Compare(Comparison),
 }
 
 /// An expression, with a case for each form of the grammar, brackets too.

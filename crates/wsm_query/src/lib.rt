@@ -37,6 +37,7 @@ pub use expr::{Expr, Op};
 pub use printing::print;
 pub use query::{Budget, Output, Query};
 pub use reading::parse;
+pub use wsm_interval::{Arithmetic, Comparison};
 
 mod clauses;
 mod expr;

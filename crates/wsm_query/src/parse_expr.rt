@@ -17,6 +17,7 @@ ghost use Rattle.wsm_query.specs.Steps.{made, numbered, operand_of, table_of};
 use crate::expr::{Expr, Op};
 use crate::level::{open, spend};
 use std::alloc::{AllocError, Global};
+use wsm_interval::{Arithmetic, Comparison};
 use wsm_record::Kind;
 use wsm_record::limits::{MAX_CHAIN, MAX_LEVELS};
 use wsm_tokens::{Reader, Stop};
@@ -316,17 +317,17 @@ fn comparison(reader: &Reader) -> Option<Op>
     ensures { option_map rule.binary result ≡ looked_up rule.comparisons reader.now }
 {
     if reader.begins(b"=") {
-        Some(Op::Eq)
+        Some(Op::Compare(Comparison::Eq))
     } else if reader.begins(b"<>") {
-        Some(Op::Ne)
+        Some(Op::Compare(Comparison::Ne))
     } else if reader.begins(b"<") {
-        Some(Op::Lt)
+        Some(Op::Compare(Comparison::Lt))
     } else if reader.begins(b"<=") {
-        Some(Op::Le)
+        Some(Op::Compare(Comparison::Le))
     } else if reader.begins(b">") {
-        Some(Op::Gt)
+        Some(Op::Compare(Comparison::Gt))
     } else if reader.begins(b">=") {
-        Some(Op::Ge)
+        Some(Op::Compare(Comparison::Ge))
     } else {
         None
     }
@@ -359,9 +360,9 @@ fn sum_link(reader: &Reader) -> Option<Link>
     ensures { option_map made result ≡ looked_up rule.sums reader.now }
 {
     if reader.begins(b"+") {
-        Some(Link::Binary(Op::Add))
+        Some(Link::Binary(Op::Compute(Arithmetic::Add)))
     } else if reader.begins(b"-") {
-        Some(Link::Binary(Op::Sub))
+        Some(Link::Binary(Op::Compute(Arithmetic::Sub)))
     } else {
         None
     }
@@ -372,11 +373,11 @@ fn product_link(reader: &Reader) -> Option<Link>
     ensures { option_map made result ≡ looked_up rule.products reader.now }
 {
     if reader.begins(b"*") {
-        Some(Link::Binary(Op::Mul))
+        Some(Link::Binary(Op::Compute(Arithmetic::Mul)))
     } else if reader.begins(b"/") {
-        Some(Link::Binary(Op::Div))
+        Some(Link::Binary(Op::Compute(Arithmetic::Div)))
     } else if reader.begins(b"%") {
-        Some(Link::Binary(Op::Rem))
+        Some(Link::Binary(Op::Compute(Arithmetic::Rem)))
     } else {
         None
     }

@@ -11,6 +11,7 @@ ghost use Rattle.wsm_query.specs.Seen.{seen_expr};
 use crate::expr::{Expr, Op};
 use crate::print_tokens::{number, sign, word};
 use std::alloc::AllocError;
+use wsm_interval::{Arithmetic, Comparison};
 use wsm_record::{Kind, Name};
 use wsm_tokens::Sign;
 
@@ -125,16 +126,16 @@ fn op_text(op: Op) -> &'static [u8]
     ensures { result.now ≡ sign_text (rule.op_sign op) }
 {
     match op {
-        Op::Add => b"+",
-        Op::Sub => b"-",
-        Op::Mul => b"*",
-        Op::Div => b"/",
-        Op::Rem => b"%",
-        Op::Eq => b"=",
-        Op::Ne => b"<>",
-        Op::Lt => b"<",
-        Op::Le => b"<=",
-        Op::Gt => b">",
-        Op::Ge => b">=",
+        Op::Compute(Arithmetic::Add) => b"+",
+        Op::Compute(Arithmetic::Sub) => b"-",
+        Op::Compute(Arithmetic::Mul) => b"*",
+        Op::Compute(Arithmetic::Div) => b"/",
+        Op::Compute(Arithmetic::Rem) => b"%",
+        Op::Compare(Comparison::Eq) => b"=",
+        Op::Compare(Comparison::Ne) => b"<>",
+        Op::Compare(Comparison::Lt) => b"<",
+        Op::Compare(Comparison::Le) => b"<=",
+        Op::Compare(Comparison::Gt) => b">",
+        Op::Compare(Comparison::Ge) => b">=",
     }
 }
