@@ -55,6 +55,11 @@ leaf q around e fs t x has_type term none spelt = record {
   spelt = spelt;
 }
 
+-- the same of one that may be refused
+pub leaf_if : (q : Query) (around : Around) (e : Expr) (fs : List Folding) (r : Result (CellType × Code) CheckRefusal) → IfOk r (λ t. typed q around e ≡ Ok t.0) → IfOk r (λ t. seen_term t.1 ≡ resolved q (length fs) e) → accumulators_of e ≡ [] →
+    numbers_fit e ≡ true → IfOk r (λ t. Resolves q around e fs fs t.0 (seen_term t.1))
+leaf_if q around e fs r h l none spelt = grind (arith, leaf)
+
 pub minus : (q : Query) (around : Around) (e : Expr) (a b : List Folding) (x : Term) → ResolvesAs q around types.Int e a b x → Resolves q around (Minus e) a b types.Int (terms.Minus x)
 minus q around e a b x h = record {
   has_type = rw (h.is.has_type, h.wanted) refl;
@@ -169,4 +174,4 @@ joins q around s f g k x y a b c t u v l r z (inr (inr is)) as_op as_and as_or h
     let e : seen_expr s ≡ Or x y = ap seen_expr is ∙ as_or in
     rw (hz, e) (disjunction q around x y a b c t u v l r hx hy (rw e at h))
 
-pub ruleset forms = (stops, behind, leaf)
+pub ruleset forms = (stops, behind, leaf, leaf_if)

@@ -33,6 +33,10 @@ abbrev pub type_of : Name → List DeclaredField → FieldType
 type_of x [] = field_types.Truth
 type_of x (d ∷ ds) = cond (bytes_eq x d.name) d.type (type_of x ds)
 
+-- the number of a name in the list that its field declares
+abbrev pub name_place : List DeclaredField → Name → Name → ℕ
+name_place ds x y = place_of y (names_of (type_of x ds))
+
 -- a field of that name is declared, one of the first 16, with this number and type
 pub record Found (ds : List DeclaredField) (x : Name) (number : ℕ) (ty : FieldType) : Type 0 where
   pub there : is_among x (field_names ds) ≡ true

@@ -3,7 +3,7 @@ use Rattle.std.specs.Prelude.{ℕ, suc, ◌+◌, Bool, ℤ}
 use Rattle.wsm_query.specs.declared.expr.Op.{Op}
 use Rattle.wsm_query.specs.Tree as tree
 use Rattle.wsm_query.specs.Tree.{Query, Expr, EnumName, KeyName, Aggregate, Brackets}
-use Rattle.wsm_check.specs.Names.{place_of, field_place, type_of, names_of}
+use Rattle.wsm_check.specs.Names.{place_of, field_place, name_place}
 use Rattle.wsm_check.specs.Aggregates.{aggregates}
 
 -- ENUM 0 is the keys, and f + 1 the names of field f
@@ -27,7 +27,7 @@ abbrev pub resolved : Query → ℕ → Expr → Term
 resolved q a (tree.Number n) = Number n
 resolved q a (tree.Truth b) = Truth b
 resolved q a (tree.Field x) = Field (field_place q.fields x)
-resolved q a (EnumName x y) = Name (suc (field_place q.fields x)) (place_of y (names_of (type_of x q.fields)))
+resolved q a (EnumName x y) = Name (suc (field_place q.fields x)) (name_place q.fields x y)
 resolved q a tree.Key = Key
 resolved q a (KeyName x) = Name 0 (place_of x q.keys)
 resolved q a tree.Count = Count

@@ -3,63 +3,70 @@
 ghost use Rattle.std.specs.Prelude.{◌≡◌, ◌≤◌, suc, map, length, Ok, Some, true, false, IfOk, IfErr, MatchOption};
 ghost use Rattle.wsm_record.specs.Name as rule;
 ghost use Rattle.wsm_record.specs.Fields.{field_seen, type_seen};
-ghost use Rattle.wsm_record.specs.declared.words.CellType.TheVariants as types;
-ghost use Rattle.wsm_check.specs.Names.{Found, IsListed, field_names, field_place, names_of, place_of, type_of};
+ghost use Rattle.wsm_check.specs.Names.{Found, IsListed, field_names, field_place, name_place, names_of, place_of};
 ghost use Rattle.wsm_check.specs.Checks.{typed_refusal};
+ghost use Rattle.wsm_check.specs.Seen.{seen_term};
+ghost use Rattle.wsm_check.specs.Terms as terms;
 ghost use Rattle.wsm_check.specs.Types.{key_ty, name_ty, read_ty};
 
 use crate::refusal::{CheckFault, CheckRefusal, Part};
 use crate::resolve::Place;
+use crate::term::Term;
 use crate::types::{Around, declared_ty};
 use wsm_record::limits::MAX_FIELDS;
 use wsm_record::{CellType, DeclaredField, FieldType, Name, Names, Schema};
 
-/// The number of a field, and its type where it may be read.
-pub fn field_at(schema: &Schema, place: Place, name: &Name) -> Result<(u8, CellType), CheckRefusal>
+/// The type and the term of a field, where it may be read.
+pub fn field_at(
+    schema: &Schema,
+    place: Place,
+    name: &Name,
+) -> Result<(CellType, Term), CheckRefusal>
     requires { length schema.now.fields ≤ MAX_FIELDS }
-    ensures number { IfOk result (λ f. f.0 ≡ field_place schema.now.fields name.now) }
-    ensures typed { IfOk result (λ f. read_ty schema.now.fields place.around name.now ≡ Ok f.1) }
+    ensures typed { IfOk result (λ t. read_ty schema.now.fields place.around name.now ≡ Ok t.0) }
+    ensures term { IfOk result (λ t. seen_term t.1 ≡ terms.Field (field_place schema.now.fields name.now)) }
     ensures refused { IfErr result (λ r. typed_refusal place.part (read_ty schema.now.fields place.around name.now) ≡ Some r) }
 {
     let Some((number, ty)) = field_named(schema.fields(), name) else {
         return Err(unknown(place.part));
     };
     match place.around {
-        Around::InWhere | Around::InAggregate => Ok((number, declared_ty(number, ty))),
+        Around::InWhere | Around::InAggregate => {
+            Ok((declared_ty(number, ty), Term::Field(number)))
+        }
         Around::InColumn => Err(CheckRefusal::Fault(CheckFault::FieldOutsideAggregate, place.part)),
     }
 }
 
-/// A name of a field's ENUM: the number of the ENUM, and that of the name.
+/// The type and the term of a name of a field's ENUM.
 pub fn name_at(
     schema: &Schema,
     part: Part,
     field: &Name,
     name: &Name,
-) -> Result<(u8, u16), CheckRefusal>
+) -> Result<(CellType, Term), CheckRefusal>
     requires { length schema.now.fields ≤ MAX_FIELDS }
-    ensures list { IfOk result (λ n. n.0 ≡ suc (field_place schema.now.fields field.now)) }
-    ensures number { IfOk result (λ n. n.1 ≡ place_of name.now (names_of (type_of field.now schema.now.fields))) }
-    ensures typed { IfOk result (λ n. name_ty schema.now.fields field.now name.now ≡ Ok (types.Enum n.0)) }
+    ensures typed { IfOk result (λ t. name_ty schema.now.fields field.now name.now ≡ Ok t.0) }
+    ensures term { IfOk result (λ t. seen_term t.1 ≡ terms.Name (suc (field_place schema.now.fields field.now)) (name_place schema.now.fields field.now name.now)) }
     ensures refused { IfErr result (λ r. typed_refusal part (name_ty schema.now.fields field.now name.now) ≡ Some r) }
 {
     let Some((number, ty)) = field_named(schema.fields(), field) else {
         return Err(unknown(part));
     };
     match number_in_type(ty, name) {
-        Some(place) => Ok((number + 1, place)),
+        Some(place) => Ok((CellType::Enum(number + 1), Term::Name(number + 1, place))),
         None => Err(unknown(part)),
     }
 }
 
-/// The number of a key.
-pub fn key_at(schema: &Schema, part: Part, name: &Name) -> Result<u16, CheckRefusal>
-    ensures number { IfOk result (λ n. n ≡ place_of name.now schema.now.keys) }
-    ensures typed { IfOk result (λ _. key_ty schema.now.keys name.now ≡ Ok (types.Enum 0)) }
+/// The type and the term of a key.
+pub fn key_at(schema: &Schema, part: Part, name: &Name) -> Result<(CellType, Term), CheckRefusal>
+    ensures typed { IfOk result (λ t. key_ty schema.now.keys name.now ≡ Ok t.0) }
+    ensures term { IfOk result (λ t. seen_term t.1 ≡ terms.Name 0 (place_of name.now schema.now.keys)) }
     ensures refused { IfErr result (λ r. typed_refusal part (key_ty schema.now.keys name.now) ≡ Some r) }
 {
     match number_in(schema.keys(), name) {
-        Some(number) => Ok(number),
+        Some(number) => Ok((CellType::Enum(0), Term::Name(0, number))),
         None => Err(unknown(part)),
     }
 }

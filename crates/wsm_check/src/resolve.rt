@@ -2,12 +2,14 @@
 
 ghost use Rattle.std.specs.Prelude.{◌≡◌, ◌≤◌, ◌<◌, ◌⊎◌, map, length, true, Some, IfOk, IfErr, OnOk};
 ghost use Rattle.wsm_record.specs.Types.{is_type, kind_type};
+ghost use Rattle.wsm_record.specs.declared.words.CellType.TheVariants as types;
 ghost use Rattle.wsm_query.specs.Tree.{Query, Aggregate};
 ghost use Rattle.wsm_query.specs.Seen.{seen_expr};
 ghost use Rattle.wsm_check.specs.Names.{schema_of};
 ghost use Rattle.wsm_check.specs.Checks.{typed_refusal};
 ghost use Rattle.wsm_check.specs.Resolved.{IsRefused, Resolves, ResolvesAs, joined, two_ty};
 ghost use Rattle.wsm_check.specs.Seen.{seen_folding, seen_term};
+ghost use Rattle.wsm_check.specs.Terms as terms;
 ghost use Rattle.wsm_check.specs.Types.{InColumn, Typed, entered, typed, typed_as};
 
 use crate::names::{field_at, key_at, name_at};
@@ -48,26 +50,13 @@ pub fn resolve(
     match expr {
         Expr::Number(number) => Ok((CellType::Int, Term::Number(*number))),
         Expr::Truth(truth) => Ok((CellType::Bool, Term::Truth(*truth))),
-        Expr::Field(field) => {
-            let (number, ty) = field_at(schema, place, field)?;
-            Ok((ty, Term::Field(number)))
-        }
-        Expr::EnumName(field, name) => {
-            let (list, number) = name_at(schema, place.part, field, name)?;
-            Ok((CellType::Enum(list), Term::Name(list, number)))
-        }
+        Expr::Field(field) => field_at(schema, place, field),
+        Expr::EnumName(field, name) => name_at(schema, place.part, field, name),
         Expr::Key => Ok((CellType::Enum(0), Term::Key)),
-        Expr::KeyName(name) => {
-            let number = key_at(schema, place.part, name)?;
-            Ok((CellType::Enum(0), Term::Name(0, number)))
-        }
-        Expr::Count => {
-            enter(place)?;
-            Ok((CellType::Int, Term::Count))
-        }
+        Expr::KeyName(name) => key_at(schema, place.part, name),
+        Expr::Count => count(place),
         Expr::Aggregate(kind, operand) => {
-            enter(place)?;
-            aggregate(alloc, schema, place.part, *kind, operand, foldings)
+            aggregate(alloc, schema, place, *kind, operand, foldings)
         }
         Expr::If(test, first, second) => {
             let test = boxed(alloc, schema, place, test, foldings)?;
@@ -126,6 +115,16 @@ fn told(part: Part, ty: Result<CellType, CheckFault>) -> Result<CellType, CheckR
     }
 }
 
+// The type and the term of COUNT(*), where it may stand.
+fn count(place: Place) -> Result<(CellType, Term), CheckRefusal>
+    ensures typed { IfOk result (λ t. entered place.around (Ok types.Int) ≡ Ok t.0) }
+    ensures term { IfOk result (λ t. seen_term t.1 ≡ terms.Count) }
+    ensures refused { IfErr result (λ r. typed_refusal place.part (entered place.around (Ok types.Int)) ≡ Some r) }
+{
+    enter(place)?;
+    Ok((CellType::Int, Term::Count))
+}
+
 // That an aggregate may stand there, as COUNT(*) is one too.
 fn enter(place: Place) -> Result<(), CheckRefusal>
     ensures column { OnOk result (place.around ≡ InColumn) }
@@ -176,26 +175,29 @@ pub fn boxed_as(
     Ok(term)
 }
 
-// The accumulator of an aggregate in a column or in HAVING. Its operand has none.
+// The accumulator of an aggregate, which stands in a column or in HAVING alone. Its operand has none.
 #[cycle(resolve)]
 #[tactic(auto, using(crate::proofs::Resolving::forms))]
 fn aggregate(
     alloc: Global,
     schema: &Schema,
-    part: Part,
+    place: Place,
     kind: Kind,
     operand: &Expr,
     foldings: &mut Vec<Folding>,
 ) -> Result<(CellType, Term), CheckRefusal>
     requires { length schema.now.fields ≤ MAX_FIELDS }
     ensures resolved { (q : Query) → schema.now ≡ schema_of q →
-        IfOk result (λ t. Resolves q InColumn (Aggregate kind (seen_expr operand.now)) (map seen_folding foldings.old.items) (map seen_folding foldings.new.items) t.0 (seen_term t.1)) }
-    ensures refused { (q : Query) → schema.now ≡ schema_of q → IfErr result (λ r. IsRefused part (typed q InColumn (Aggregate kind (seen_expr operand.now))) r) }
+        IfOk result (λ t. Resolves q place.around (Aggregate kind (seen_expr operand.now)) (map seen_folding foldings.old.items) (map seen_folding foldings.new.items) t.0 (seen_term t.1)) }
+    ensures refused { (q : Query) → schema.now ≡ schema_of q → IfErr result (λ r. IsRefused place.part (typed q place.around (Aggregate kind (seen_expr operand.now))) r) }
 {
-    let around = Around::InAggregate;
+    enter(place)?;
+    let inside = Place {
+        around: Around::InAggregate,
+        ..place
+    };
     let mut none = Vec::new(alloc);
-    let place = Place { part, around };
-    let operand = boxed_as(alloc, schema, place, kind.ty(), operand, &mut none)?;
+    let operand = boxed_as(alloc, schema, inside, kind.ty(), operand, &mut none)?;
     let number = next_number(foldings);
     let operand = Box::into_inner(operand);
     foldings.push(Folding { kind, operand })?;

@@ -16,7 +16,7 @@ use Rattle.wsm_program.specs.Instructions.{may_stand, passes}
 use Rattle.wsm_machine.specs.Step.{Setting, State, Next, Goes, cell_of, overflows, push_on, step, unless}
 use Rattle.wsm_record.specs.Schema.{FieldType}
 use Rattle.wsm_query.specs.Tree.{Query, Expr, Number, Truth, Field, EnumName, Key, KeyName, Count, Aggregate, If, Brackets, Minus, Not, Binary, And, Or}
-use Rattle.wsm_check.specs.Names.{place_of, field_names, field_place, type_of, names_of}
+use Rattle.wsm_check.specs.Names.{place_of, field_names, field_place, name_place, type_of, names_of}
 use Rattle.wsm_record.specs.declared.words.CellType.{CellType}
 use Rattle.wsm_record.specs.declared.words.CellType.TheVariants as types
 use Rattle.wsm_record.specs.Types.{kind_type}
@@ -176,7 +176,7 @@ module _ (c : Setting) (q : Query) (around : Around) (s : Scene) (serves : Serve
       (ap (λ o. reads (may_stand c.section (instr.Field f)) k stack folds (option_map (cell_of (f + 1)) o)) v.3 ∙ ap (λ y. reads (may_stand c.section (instr.Field f)) k stack folds (Some y)) is))
   code_runs k a (EnumName x y) m t h accs at inside stack folds room =
       at_type c (state k stack folds) (k + 1) stack folds (types.Enum _) t (value a (EnumName x y)) (ok_is _ t (cond_ok (is_among x (field_names q.fields) && is_among y (names_of (type_of x q.fields))) _ _ t h))
-      (push_enum c k stack folds (omega (arith, room)) (suc (field_place q.fields x)) (place_of y (names_of (type_of x q.fields))) at.0)
+      (push_enum c k stack folds (omega (arith, room)) (suc (field_place q.fields x)) (name_place q.fields x y) at.0)
   code_runs k a Key m t h accs at inside stack folds room =
       at_type c (state k stack folds) (k + 1) stack folds (types.Enum 0) t (value a Key) (ok_is _ t h)
       (subst (λ n. Gives c (state k stack folds) (Some (state (k + 1) (cells.Enum 0 n ∷ stack) folds))) (sym serves.key) (push_key c k stack folds (omega (arith, room)) at.0))

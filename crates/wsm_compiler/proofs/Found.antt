@@ -12,7 +12,7 @@ use Rattle.wsm_interval.specs.declared.Comparison.TheVariants.{Eq}
 use Rattle.wsm_query.specs.declared.expr.Op.{Op}
 use Rattle.wsm_query.specs.declared.expr.Op.TheVariants as ops
 use Rattle.wsm_query.specs.Tree.{Query, Expr, Number, Truth, Field, EnumName, Key, KeyName, Count, Aggregate, If, Brackets, Minus, Not, Binary, And, Or}
-use Rattle.wsm_check.specs.Names.{place_of, field_place, type_of, names_of}
+use Rattle.wsm_check.specs.Names.{place_of, field_place, name_place}
 use Rattle.wsm_check.specs.Aggregates.{aggregates}
 use Rattle.wsm_rules.specs.declared.known.Known.{Known}
 use Rattle.wsm_rules.specs.declared.known.Known.TheVariants as known
@@ -57,7 +57,7 @@ abbrev pub found : Setting → Query → List Known → ℕ → Expr → Option 
 found c q fs a (Number n) = of_instr c (instr.PushInt n) []
 found c q fs a (Truth b) = of_instr c (instr.PushBool b) []
 found c q fs a (Field x) = of_field c fs (field_place q.fields x)
-found c q fs a (EnumName x y) = of_instr c (instr.PushEnum (suc (field_place q.fields x)) (place_of y (names_of (type_of x q.fields)))) []
+found c q fs a (EnumName x y) = of_instr c (instr.PushEnum (suc (field_place q.fields x)) (name_place q.fields x y)) []
 found c q fs a Key = of_instr c instr.Key []
 found c q fs a (KeyName x) = of_instr c (instr.PushEnum 0 (place_of x q.keys)) []
 found c q fs a Count = of_instr c instr.Count []

@@ -17,7 +17,7 @@ use Rattle.wsm_interval.specs.declared.Arithmetic.TheVariants.{Div, Rem}
 use Rattle.wsm_interval.specs.declared.Comparison.TheVariants.{Eq, Ne}
 use Rattle.wsm_query.specs.declared.expr.Op.TheVariants.{Compute, Compare}
 use Rattle.wsm_query.specs.Tree.{Query, Expr, Number, Truth, Field, EnumName, Key, KeyName, Count, Aggregate, If, Brackets, Minus, Not, Binary, And, Or}
-use Rattle.wsm_check.specs.Names.{place_of, field_place, type_of, names_of}
+use Rattle.wsm_check.specs.Names.{place_of, field_place, name_place}
 use Rattle.wsm_check.specs.Aggregates.{aggregates}
 use Rattle.wsm_check.specs.Parts.{column_type}
 
@@ -75,7 +75,7 @@ abbrev pub meaning_from : Query → Scene → ℕ → Expr → Option Value
 meaning_from q s a (Number n) = Some (Int n)
 meaning_from q s a (Truth b) = Some (Truth' b)
 meaning_from q s a (Field x) = s.field (field_place q.fields x)
-meaning_from q s a (EnumName x y) = Some (Enum (place_of y (names_of (type_of x q.fields))))
+meaning_from q s a (EnumName x y) = Some (Enum (name_place q.fields x y))
 meaning_from q s a Key = Some (Enum s.key)
 meaning_from q s a (KeyName x) = Some (Enum (place_of x q.keys))
 meaning_from q s a Count = s.count

@@ -10,8 +10,8 @@ pub aggregate-returns-clause-resolved : goal.aggregate-returns-clause-resolved
 aggregate-returns-clause-resolved t c = λ q h.
     let before = c.args.foldings.now.items in
     let number = rw c.deref.ensures.value at c.next_number-number.ensures in
-    adds_folding q c.args.kind (seen_expr c.args.operand.now) (map seen_folding c.new-none.result.items) _ c.ty.result c.ty-2.result c.in_ok-operand.operand.value c.into_inner-operand.result before c.push.new.self.items c.next_number-number.result
-    c.ty.ensures c.ty-2.ensures (ap (λ (fs : List CodeFolding). map seen_folding fs) c.new-none.ensures.items) (c.in_ok-operand.ensures.resolved q h) c.into_inner-operand.ensures c.in_ok-push.ensures.items number
+    rw c.in_ok-enter.ensures.column (adds_folding q c.args.kind (seen_expr c.args.operand.now) (map seen_folding c.new-none.result.items) _ c.ty.result c.ty-2.result c.in_ok-operand.operand.value c.into_inner-operand.result before c.push.new.self.items c.next_number-number.result
+    c.ty.ensures c.ty-2.ensures (ap (λ (fs : List CodeFolding). map seen_folding fs) c.new-none.ensures.items) (c.in_ok-operand.ensures.resolved q h) c.into_inner-operand.ensures c.in_ok-push.ensures.items number)
 
 pub boxed-returns-clause-resolved : goal.boxed-returns-clause-resolved
 boxed-returns-clause-resolved t c = λ q h. rw c.in_ok-new.ensures.ok (c.in_ok-ty.ensures.resolved q h)
