@@ -11,6 +11,7 @@ use Rattle.wsm_program.specs.declared.refusal.DecodeRefusal.{DecodeRefusal}
 use Rattle.wsm_program.specs.declared.refusal.DecodeRefusal.TheVariants.{Memory}
 use Rattle.wsm_program.specs.Program.{Program}
 use Rattle.wsm_bytecode.specs.Reading.{decode}
+use Rattle.wsm_compiler.specs.Program.{program_of}
 use Rattle.wsm_rules.specs.declared.rejection.Rejection.{Rejection}
 use Rattle.wsm.specs.declared.end.InputRefusal.{InputRefusal}
 use Rattle.wsm.specs.declared.end.InputRefusal.TheVariants.{Text, Check, Bytes}
@@ -42,6 +43,11 @@ checked (Err why) = Err (refusal_of_text why)
 -- the first fault of the grammar; else the first check that fails; else the query
 unfoldable pub text_judged : List ℕ → Result Query InputRefusal
 text_judged text = checked (parse text)
+
+-- the program of the query, or why there is none
+abbrev pub compiled : Result Query InputRefusal → Result Program InputRefusal
+compiled (Ok q) = Ok (program_of q)
+compiled (Err why) = Err why
 
 abbrev pub read_or_refused : Result Program DecodeRefusal → Result Program InputRefusal
 read_or_refused (Ok p) = Ok p

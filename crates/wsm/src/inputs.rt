@@ -16,10 +16,10 @@ use crate::end::End;
 use std::alloc::Global;
 use wsm_bytecode::{Program, decode};
 use wsm_check::{CheckRefusal, Checked, check};
-use wsm_compiler::compile;
+use wsm_compiler::{compile, compile_costed};
 use wsm_query::{Query, parse};
 use wsm_rules::Verified;
-use wsm_verifier::verify;
+use wsm_verifier::{Costed, verify_costed};
 
 /// The program of a query's text: the text is read, checked and compiled.
 pub(crate) fn program_of_text(alloc: Global, text: &[u8]) -> Result<Program, End>
@@ -27,9 +27,28 @@ pub(crate) fn program_of_text(alloc: Global, text: &[u8]) -> Result<Program, End
     ensures refused { IfErr result (EndsBy (text_judged text.now)) }
     ensures memory_apart { IfErr result (λ end. hides_memory end ≡ false) }
 {
-    let query = parse(alloc, text)?;
-    let checked = checked_of(alloc, query)?;
+    let checked = checked_of_text(alloc, text)?;
     Ok(compile(alloc, checked)?)
+}
+
+/// The program of a query's text, with what it needs.
+pub(crate) fn costed_of_text(alloc: Global, text: &[u8]) -> Result<Costed, End>
+    ensures compiled { IfOk result (λ costed. (q : QueryTree) × (text_judged text.now ≡ Ok q) × (costed ≡ program_of q)) }
+    ensures refused { IfErr result (EndsBy (text_judged text.now)) }
+    ensures memory_apart { IfErr result (λ end. hides_memory end ≡ false) }
+{
+    let checked = checked_of_text(alloc, text)?;
+    Ok(compile_costed(alloc, checked)?)
+}
+
+// The query of a text, as a checked one.
+fn checked_of_text(alloc: Global, text: &[u8]) -> Result<Checked, End>
+    ensures checked { IfOk result (λ checked. (q : QueryTree) × (text_judged text.now ≡ Ok q) × (seen_parts checked.parts ≡ parts_of q)) }
+    ensures refused { IfErr result (EndsBy (text_judged text.now)) }
+    ensures memory_apart { IfErr result (λ end. hides_memory end ≡ false) }
+{
+    let query = parse(alloc, text)?;
+    Ok(checked_of(alloc, query)?)
 }
 
 // The query as a checked one.
@@ -53,14 +72,24 @@ pub(crate) fn program_of_bytes(alloc: Global, bytes: &[u8]) -> Result<Program, E
     Ok(decode(alloc, bytes)?)
 }
 
-/// The program as an accepted one.
-pub(crate) fn verified(alloc: Global, program: Program) -> Result<Verified, End>
-    ensures kept { IfOk result (λ verified. verified ≡ program) }
-    ensures accepted { IfOk result (λ _. judge program ≡ Ok (needed program)) }
-    ensures rejected { IfErr result (RejectsBy (judge program)) }
+/// The program that bytes spell, with what it needs.
+pub(crate) fn costed_of_bytes(alloc: Global, bytes: &[u8]) -> Result<Costed, End>
+    ensures read { IfOk result (λ costed. bytes_judged bytes.now ≡ Ok costed) }
+    ensures refused { IfErr result (EndsBy (bytes_judged bytes.now)) }
     ensures memory_apart { IfErr result (λ end. hides_memory end ≡ false) }
 {
-    match verify(alloc, program) {
+    let program = program_of_bytes(alloc, bytes)?;
+    Ok(Costed::of(alloc, program)?)
+}
+
+/// The program as an accepted one.
+pub(crate) fn verified(alloc: Global, costed: Costed) -> Result<Verified, End>
+    ensures kept { IfOk result (λ verified. verified ≡ costed) }
+    ensures accepted { IfOk result (λ _. judge costed ≡ Ok (needed costed)) }
+    ensures rejected { IfErr result (RejectsBy (judge costed)) }
+    ensures memory_apart { IfErr result (λ end. hides_memory end ≡ false) }
+{
+    match verify_costed(alloc, costed) {
         Ok(verified) => Ok(verified),
         Err((_, rejection)) => Err(End::from(rejection)),
     }

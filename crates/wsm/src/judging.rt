@@ -1,17 +1,18 @@
 //! Judging a program: what `verify` and `explain` write.
 
-ghost use Rattle.std.specs.Prelude.{◌≡◌, ◌++◌, Err, false, true, is_ok, IfOk, IfErr, OnOk, string_bytes};
+ghost use Rattle.std.specs.Prelude.{◌≡◌, ◌++◌, Ok, Err, false, true, is_ok, IfOk, IfErr, OnOk, string_bytes};
 ghost use Rattle.wsm_rules.specs.Rules.{judge as judge_of};
 ghost use Rattle.wsm.specs.Ends.{hides_memory};
-ghost use Rattle.wsm.specs.Judged.{bytes_judged};
+ghost use Rattle.wsm.specs.Judged.{bytes_judged, compiled, text_judged};
 ghost use Rattle.wsm.specs.Verdict.{listing, verdict, Reports, StopsBy};
 
 use crate::end::End;
-use crate::inputs::{program_of_bytes, verified};
+use crate::inputs::{costed_of_bytes, costed_of_text, verified};
 use std::alloc::{AllocError, Global};
 use wsm_bytecode::{Program, disassemble};
 use wsm_csv::{Device, write_out};
 use wsm_rules::Verified;
+use wsm_verifier::Costed;
 
 /// Judges the program of some bytes, and answers whether it is accepted. A line is written:
 /// `accepted,RECORD,PANE,HELD` with the numbers that the program needs, or
@@ -36,9 +37,49 @@ pub fn judge<D: Device>(
     ensures write_failed { result ≡ Err End.WriteFailed → D.has_failed out.new ≡ true }
     ensures memory_apart { IfErr result (λ end. hides_memory end ≡ false) }
 {
-    let program = program_of_bytes(alloc, program)?;
-    let mut text = listing(alloc, &program, explain)?;
-    let accepted = add_verdict(alloc, program, &mut text)?;
+    let costed = costed_of_bytes(alloc, program)?;
+    write_report(alloc, costed, explain, out)
+}
+
+/// Judges the program of a query's text, as [`judge`] does the one that bytes spell.
+///
+/// # Errors
+///
+/// [`End::Refused`] where the text is no query, or a check refuses it: then nothing is written. Else as
+/// [`judge`].
+pub fn judge_query<D: Device>(
+    alloc: Global,
+    text: &[u8],
+    explain: bool,
+    out: &mut D,
+) -> Result<bool, End>
+    requires { D.has_failed out.old ≡ false }
+    ensures reports { IfOk result (Reports (compiled (text_judged text.now)) explain (D.taken out.old) (D.taken out.new)) }
+    ensures flushed { OnOk result (D.is_flushed out.new ≡ true) }
+    ensures stops { IfErr result (StopsBy (compiled (text_judged text.now)) explain (D.taken out.old) (D.taken out.new)) }
+    ensures write_failed { result ≡ Err End.WriteFailed → D.has_failed out.new ≡ true }
+    ensures memory_apart { IfErr result (λ end. hides_memory end ≡ false) }
+{
+    let costed = costed_of_text(alloc, text)?;
+    write_report(alloc, costed, explain, out)
+}
+
+// Writes what is said of a program, and answers whether it is accepted.
+fn write_report<D: Device>(
+    alloc: Global,
+    costed: Costed,
+    explain: bool,
+    out: &mut D,
+) -> Result<bool, End>
+    requires { D.has_failed out.old ≡ false }
+    ensures reports { IfOk result (Reports (Ok costed) explain (D.taken out.old) (D.taken out.new)) }
+    ensures flushed { OnOk result (D.is_flushed out.new ≡ true) }
+    ensures stops { IfErr result (StopsBy (Ok costed) explain (D.taken out.old) (D.taken out.new)) }
+    ensures write_failed { result ≡ Err End.WriteFailed → D.has_failed out.new ≡ true }
+    ensures memory_apart { IfErr result (λ end. hides_memory end ≡ false) }
+{
+    let mut text = listing(alloc, costed.program(), explain)?;
+    let accepted = add_verdict(alloc, costed, &mut text)?;
     write_out(out, text.as_bytes())?;
     out.flush()?;
     Ok(accepted)
@@ -56,12 +97,12 @@ fn listing(alloc: Global, program: &Program, explain: bool) -> Result<String, Al
 }
 
 // Adds the line of a judgement, and tells whether the program is accepted.
-fn add_verdict(alloc: Global, program: Program, text: &mut String) -> Result<bool, End>
-    ensures accepted { IfOk result (λ accepted. accepted ≡ is_ok (judge_of program)) }
-    ensures line { OnOk result (string_bytes text.new ≡ string_bytes text.old ++ verdict (judge_of program)) }
+fn add_verdict(alloc: Global, costed: Costed, text: &mut String) -> Result<bool, End>
+    ensures accepted { IfOk result (λ accepted. accepted ≡ is_ok (judge_of costed)) }
+    ensures line { OnOk result (string_bytes text.new ≡ string_bytes text.old ++ verdict (judge_of costed)) }
     ensures memory { IfErr result (λ end. end ≡ End.Memory) }
 {
-    match verified(alloc, program) {
+    match verified(alloc, costed) {
         Ok(verified) => {
             add_accepted(&verified, text)?;
             Ok(true)

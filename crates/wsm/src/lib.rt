@@ -52,14 +52,15 @@
 //! nothing is written.
 //!
 //! [`compile_text`] gives the bytes of a query's program, [`migrate`] those of a program in the version
-//! that is written, and [`judge`] writes what the verifier says of a program. `inputs` goes from texts
+//! that is written; [`judge`] writes what the verifier says of a program, and [`judge_query`] of that of
+//! a query. `inputs` goes from texts
 //! and bytes to verified programs, `turns` keeps what the rows so far come to, and `run` goes from the
 //! reader to the device. [`command_of`] reads the words of the program's command.
 #![tactic(auto)]
 
 pub use compile::compile_text;
 pub use end::{End, InputRefusal, REJECTED_STATUS, status_of};
-pub use judging::judge;
+pub use judging::{judge, judge_query};
 pub use migrating::migrate;
 pub use run::{run_program, run_program_over, run_query, run_query_over};
 pub use wsm_check::{CheckFault, CodeLimit, Part};

@@ -16,14 +16,14 @@ ghost use Rattle.wsm.specs.Written.{Cells, Completes, EndsEarly, NeverBegins};
 ghost use Rattle.wsm.specs.Turns.{Fits, Stands};
 
 use crate::end::{End, InputRefusal};
-use crate::inputs::{program_of_bytes, program_of_text, verified};
+use crate::inputs::{costed_of_bytes, costed_of_text, verified};
 use crate::turns::Turns;
 use std::alloc::Global;
 use std::io::Read;
 use wsm_csv::{Device, ReadEnd, Rows};
 use wsm_engine::Totals;
-use wsm_program::Program;
 use wsm_rules::{Rejection, Verified};
+use wsm_verifier::Costed;
 
 /// Runs the query of a text over the rows of a reader. Each row is read and its turn taken, and the
 /// device is given the lines of the turn before the next row is asked for. At last it is given the
@@ -80,8 +80,8 @@ pub fn run_query_over<R: Read + Drop, D: Device>(
     ensures write_failed { result ≡ Err End.WriteFailed → D.has_failed out.new ≡ true }
     ensures memory_apart { IfErr result (λ end. hides_memory end ≡ false) }
 {
-    let program = program_of_text(alloc, text)?;
-    run_judged(alloc, program, rows, out)
+    let costed = costed_of_text(alloc, text)?;
+    run_judged(alloc, costed, rows, out)
 }
 
 /// Runs the program that bytes spell over the rows of a reader, as [`run_query`] does.
@@ -133,27 +133,27 @@ pub fn run_program_over<R: Read + Drop, D: Device>(
     ensures write_failed { result ≡ Err End.WriteFailed → D.has_failed out.new ≡ true }
     ensures memory_apart { IfErr result (λ end. hides_memory end ≡ false) }
 {
-    let program = program_of_bytes(alloc, program)?;
-    run_judged(alloc, program, rows, out)
+    let costed = costed_of_bytes(alloc, program)?;
+    run_judged(alloc, costed, rows, out)
 }
 
 // Runs a program over rows, if it is accepted.
 fn run_judged<R: Read + Drop, D: Device>(
     alloc: Global,
-    program: Program,
+    costed: Costed,
     rows: &mut Rows<R>,
     out: &mut D,
 ) -> Result<Totals, End>
     requires { D.has_failed out.old ≡ false }
-    ensures rejected { (why : Rejection) → judge program ≡ Err why → NeverBegins (End.Rejected why) (D.taken out.old) (D.taken out.new) result }
-    ensures completes { (known : Option (List ℕ)) → Follows R.remaining known [] rows.old → IfOk result (λ totals. (cells : List Cells) × Completes known (query_of program) cells (D.taken out.old) (D.taken out.new) totals) }
+    ensures rejected { (why : Rejection) → judge costed ≡ Err why → NeverBegins (End.Rejected why) (D.taken out.old) (D.taken out.new) result }
+    ensures completes { (known : Option (List ℕ)) → Follows R.remaining known [] rows.old → IfOk result (λ totals. (cells : List Cells) × Completes known (query_of costed) cells (D.taken out.old) (D.taken out.new) totals) }
     ensures flushed { OnOk result (D.is_flushed out.new ≡ true) }
-    ensures ends_early { (known : Option (List ℕ)) → Follows R.remaining known [] rows.old → is_ok (judge program) ≡ true → IfErr result (λ end. (cells : List Cells) × EndsEarly known (query_of program) cells (D.taken out.old) (D.taken out.new) end) }
+    ensures ends_early { (known : Option (List ℕ)) → Follows R.remaining known [] rows.old → is_ok (judge costed) ≡ true → IfErr result (λ end. (cells : List Cells) × EndsEarly known (query_of costed) cells (D.taken out.old) (D.taken out.new) end) }
     ensures read_failed { result ≡ Err End.ReadFailed → read_end (error_of rows.new) ≡ ReadEnd.Failed }
     ensures write_failed { result ≡ Err End.WriteFailed → D.has_failed out.new ≡ true }
     ensures memory_apart { IfErr result (λ end. hides_memory end ≡ false) }
 {
-    let verified = verified(alloc, program)?;
+    let verified = verified(alloc, costed)?;
     run_verified(alloc, verified, rows, out)
 }
 

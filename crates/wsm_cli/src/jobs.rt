@@ -5,7 +5,7 @@ use std::io::{self, ErrorKind, Read, Write};
 use std::rt::Files;
 use wsm::{
     Ahead, DealtPart, Device, End, Guarded, Job, Rows, Shares, SharesRefusal, compile_text, deal,
-    judge, migrate, run_program_over, run_query_over, write_out,
+    judge, judge_query, migrate, run_program_over, run_query_over, write_out,
 };
 
 /// Does the job. It is false where a program was judged and rejected.
@@ -162,12 +162,13 @@ fn judged<R: Files + AllocGlobal + Print>(
     program: &String,
     explain: bool,
 ) -> Result<bool, End> {
-    let mut bytes = read(rt, program)?;
-    if query {
-        bytes = compile_text(rt.alloc(), &bytes)?;
-    }
+    let judged = read(rt, program)?;
     let mut output = Guarded::new(io::writer(rt));
-    judge(rt.alloc(), &bytes, explain, &mut output)
+    if query {
+        judge_query(rt.alloc(), &judged, explain, &mut output)
+    } else {
+        judge(rt.alloc(), &judged, explain, &mut output)
+    }
 }
 
 // The bytes of a file.

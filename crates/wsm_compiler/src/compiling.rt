@@ -16,7 +16,7 @@ use std::alloc::{AllocError, Global};
 use wsm_check::Checked;
 use wsm_program::{Costs, Program};
 use wsm_query::Budget;
-use wsm_verifier::needed;
+use wsm_verifier::Costed;
 
 // What a program states until its need is known.
 const LEAST: Costs = Costs {
@@ -31,18 +31,31 @@ pub fn compile(alloc: Global, checked: Checked) -> Result<Program, AllocError>
 {
     match checked.parts.budget {
         Some(clause) => program(alloc, checked, stated(clause)),
+        None => {
+            let (program, _need) = program_with_need(alloc, checked)?.into_parts();
+            Ok(program)
+        }
+    }
+}
+
+/// The program of a checked query, as [`compile`] makes it, and what it needs: this is found once,
+/// whether a BUDGET is stated or not.
+pub fn compile_costed(alloc: Global, checked: Checked) -> Result<Costed, AllocError>
+    ensures { (q : Query) → seen_parts checked.parts ≡ parts_of q → IfOk result (λ costed. costed ≡ program_of q) }
+{
+    match checked.parts.budget {
+        Some(_) => Ok(Costed::of(alloc, compile(alloc, checked)?)?),
         None => program_with_need(alloc, checked),
     }
 }
 
 // The program that states what it needs.
-fn program_with_need(alloc: Global, checked: Checked) -> Result<Program, AllocError>
+fn program_with_need(alloc: Global, checked: Checked) -> Result<Costed, AllocError>
     requires { checked.parts.budget ≡ None }
-    ensures { let parts = seen_parts checked.parts in IfOk result (λ p. p ≡ assembled parts (spec.stated (needed (assembled parts LEAST)) None)) }
+    ensures { let parts = seen_parts checked.parts in IfOk result (λ costed. costed ≡ assembled parts (spec.stated (needed (assembled parts LEAST)) None)) }
 {
     let program = program(alloc, checked, LEAST)?;
-    let need = needed(alloc, &program)?;
-    Ok(program.stating(need))
+    Ok(Costed::of(alloc, program)?.stating_need())
 }
 
 // What a BUDGET clause states.

@@ -1,8 +1,8 @@
 //! Code for a checked query.
 //!
-//! [`compile`] gives the program of a checked query. [`laws`] says what holds of it: when it is
-//! accepted, what a run of each section ends with, and that by it every input has the lines that
-//! the query's text means.
+//! [`compile`] gives the program of a checked query, and [`compile_costed`] also what it needs, for
+//! the verifier. [`laws`] says what holds of the program: when it is accepted, what a run of each
+//! section ends with, and that by it every input has the lines that the query's text means.
 //!
 //! With this query as `text`
 //!
@@ -33,7 +33,7 @@
 //! - `compiling`: a program put together, and what it states of its cost
 #![tactic(auto)]
 
-pub use compiling::compile;
+pub use compiling::{compile, compile_costed};
 
 mod compiling;
 mod expressions;

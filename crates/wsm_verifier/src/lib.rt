@@ -2,7 +2,8 @@
 //! first row.
 //!
 //! [`verify`] accepts a program, or refuses it for its first fault. [`needed`] says what a program
-//! costs, also one that would be refused.
+//! costs, also one that would be refused. A [`Costed`] is a program with what it needs, which is
+//! found once: [`verify_costed`] judges it by that.
 //!
 //! Where `bytes` is the program that counts the records of two keys in windows of 60 and sums their
 //! field n of 0 to 100, and `wrong` one that writes `100 / SUM(n)`:
@@ -23,12 +24,14 @@
 //! ```
 #![tactic(auto)]
 
+pub use costed::Costed;
 pub use costs::needed;
-pub use judging::verify;
+pub use judging::{verify, verify_costed};
 pub use wsm_program::Costs;
 pub use wsm_rules::{Part, Rejection, Rule, Verified};
 
 mod accumulated;
+mod costed;
 mod costs;
 mod judging;
 mod label;

@@ -1,34 +1,16 @@
-use Rattle.std.proofs.Common.{rules, List, ℕ}
-use Rattle.std.proofs.lemmas.Result.{err_from_is_err_and}
-use Rattle.std.specs.Io.KnownBytes.{Appends}
-use Rattle.wsm_csv.proofs.Written.{Keeps-Appends, TakesPart-all}
-use Rattle.wsm.specs.Verdict.{report}
-use Rattle.wsm.proofs.Texts.{Keeps-same}
+use Rattle.std.proofs.Common.{sym, subst}
+use Rattle.std.specs.Prelude.{IfErr, IfOk}
+use Rattle.wsm.specs.Verdict.{Reports, StopsBy}
 use Rattle.wsm.proofs.judging.judge.Goals as goal
-
--- a flush that fails keeps what was written, and that is all
-pub returns-in_err-flush-clause-stops : goal.returns-in_err-flush-clause-stops
-returns-in_err-flush-clause-stops g c =
-    let p = err_from_is_err_and c.from_residual-in_err-flush.result c.from_residual-in_err-flush.ensures.1 in
-    let taken = g.D.Device.taken in
-    let text : List ℕ = report c.args.explain c.in_ok-program.program in
-    let written : Appends (taken c.args.out.now) (taken c.write_out.new.device) text = search rules in
-    rw (p.1, p.2) (c.in_ok-program.program, c.in_ok-program.ensures.read, TakesPart-all _ _ text (Keeps-Appends _ _ _ text written c.in_err-flush.ensures.kept))
 
 pub returns-clause-reports : goal.returns-clause-reports
 returns-clause-reports g c =
     let taken = g.D.Device.taken in
-    let text : List ℕ = report c.args.explain c.in_ok-program.program in
-    let written : Appends (taken c.args.out.now) (taken c.write_out.new.device) text = search rules in
-    record {
-      program = c.in_ok-program.program;
-      read_as = c.in_ok-program.ensures.read;
-      written = Keeps-Appends _ _ _ text written c.in_ok-flush.ensures.kept;
-      tells = c.in_ok-accepted.ensures.accepted;
-    }
+    subst (λ read. IfOk c.write_report.result (Reports read c.args.explain (taken c.args.out.now) (taken c.write_report.new.out)))
+    (sym c.in_ok-costed.ensures.read) c.write_report.ensures.reports
 
--- nothing is written where the listing wants memory
-pub returns-in_err-text-clause-stops : goal.returns-in_err-text-clause-stops
-returns-in_err-text-clause-stops g c =
-    let p = err_from_is_err_and c.from_residual-in_err-text.result c.from_residual-in_err-text.ensures.1 in
-    rw (p.1, p.2) (Keeps-same (g.D.Device.taken c.args.out.now))
+pub returns-clause-stops : goal.returns-clause-stops
+returns-clause-stops g c =
+    let taken = g.D.Device.taken in
+    subst (λ read. IfErr c.write_report.result (StopsBy read c.args.explain (taken c.args.out.now) (taken c.write_report.new.out)))
+    (sym c.in_ok-costed.ensures.read) c.write_report.ensures.stops

@@ -13,12 +13,12 @@ use Rattle.wsm.proofs.run.run_judged.Goals as goal
 pub returns-in_err-verified-clause-rejected : goal.returns-in_err-verified-clause-rejected
 returns-in_err-verified-clause-rejected g c =
     let e = err_from_is_err_and c.from_residual.result c.from_residual.ensures.1 in
-    rw (e.1, e.2) (λ why rejected. rejected_by (judge c.args.program) c.in_err-verified.field-0.0 why (g.D.Device.taken c.args.out.now) c.in_err-verified.ensures.rejected rejected)
+    rw (e.1, e.2) (λ why rejected. rejected_by (judge c.args.costed) c.in_err-verified.field-0.0 why (g.D.Device.taken c.args.out.now) c.in_err-verified.ensures.rejected rejected)
 
 pub returns-in_err-verified-clause-ends_early : goal.returns-in_err-verified-clause-ends_early
 returns-in_err-verified-clause-ends_early g c =
     let e = err_from_is_err_and c.from_residual.result c.from_residual.ensures.1 in
-    rw (e.1, e.2) (λ known start ok. unverified_early (judge c.args.program) c.in_err-verified.field-0.0 known (g.D.Device.taken c.args.out.now) (query_of c.args.program) c.in_err-verified.ensures.rejected ok)
+    rw (e.1, e.2) (λ known start ok. unverified_early (judge c.args.costed) c.in_err-verified.field-0.0 known (g.D.Device.taken c.args.out.now) (query_of c.args.costed) c.in_err-verified.ensures.rejected ok)
 
 pub returns-clause-completes : goal.returns-clause-completes
 returns-clause-completes g c = λ known start.

@@ -21,8 +21,8 @@ returns-in-Some c =
     let same = ap (assembled p) (c.stated.ensures need ∙ ap (stated need) (sym c.in-Some.is)) in
     λ q is. subst (λ (r : Program). IfOk c.program.result (λ made. made ≡ r)) (same ∙ compiled p LEAST q is) c.program.ensures
 
-pub returns-in-None : goal.returns-in-None
-returns-in-None c =
+pub returns-in_ok-program_with_need-in-None : goal.returns-in_ok-program_with_need-in-None
+returns-in_ok-program_with_need-in-None c =
     let p = seen_parts c.args.checked.parts in
     let same = ap (λ budget. assembled p (stated (needed (assembled p LEAST)) budget)) (sym c.in-None.is) in
-    λ q is. subst (λ (r : Program). IfOk c.program_with_need.result (λ made. made ≡ r)) (same ∙ compiled p LEAST q is) c.program_with_need.ensures
+    λ q is. c.into_parts-program.ensures.program ∙ c.in_ok-program_with_need-in-None.ensures ∙ same ∙ compiled p LEAST q is

@@ -7,8 +7,8 @@ use Rattle.wsm_compiler.specs.declared.compiling.TheConstants.{LEAST}
 use Rattle.wsm_compiler.proofs.AssembledProgram.{is_budget_of}
 use Rattle.wsm_compiler.proofs.compiling.program_with_need.Goals as goal
 
-pub stating-requires : goal.stating-requires
-stating-requires c =
+pub stating_need-requires : goal.stating_need-requires
+stating_need-requires c =
     let p = seen_parts c.args.checked.parts in
-    let need = c.in_ok-need.ensures.numbers ∙ ap needed c.in_ok-program.ensures in
-    ap (λ costs. is_budget (stated costs None)) need ∙ ap (λ budget. is_budget (stated (needed (assembled p LEAST)) budget)) (sym c.requires) ∙ is_budget_of p c.args.checked.of_checked LEAST
+    let same = c.in_ok-of.ensures.kept ∙ c.in_ok-program.ensures in
+    ap (λ made. is_budget (stated (needed made) None)) same ∙ ap (λ budget. is_budget (stated (needed (assembled p LEAST)) budget)) (sym c.requires) ∙ is_budget_of p c.args.checked.of_checked LEAST
