@@ -1,7 +1,5 @@
 -- What holds however a call ended.
-use Rattle.std.proofs.Common.{◌≡◌, IfErr, Result, Ok, Err, OnOk, OnErr}
-use Rattle.std.specs.Prelude.{if◌then◌else◌}
-use Rattle.std.specs.Result.{is_ok}
+use Rattle.std.proofs.Common.{IfErr, Result, Ok, Err, OnOk, OnErr}
 
 pub on_err : {T E : Type 0} {P : Type 0} (r : Result T E) → P → OnErr r P
 on_err (Ok v) p = tt
@@ -14,10 +12,6 @@ on_ok (Err e) p = tt
 pub on_ok_map : {T E : Type 0} {P Q : Type 0} (r : Result T E) → (P → Q) → OnOk r P → OnOk r Q
 on_ok_map (Ok v) f p = f p
 on_ok_map (Err e) f p = tt
-
-pub on_ok_if : {T E : Type 0} {A : Type 0} (r : Result T E) (x y z : A) → x ≡ (if is_ok r then y else z) → OnOk r (x ≡ y)
-on_ok_if (Ok v) x y z is = is
-on_ok_if (Err e) x y z is = tt
 
 pub on_err_map : {T E : Type 0} {P Q : Type 0} (r : Result T E) → (P → Q) → OnErr r P → OnErr r Q
 on_err_map (Ok v) f p = tt

@@ -3,6 +3,7 @@ use Rattle.std.proofs.Common.{◌≡◌, ◌≢◌, ◌==◌, ◌∷◌, ◌++�
 use Rattle.std.proofs.Math.Seq.{take-append_seam}
 use Rattle.std.specs.Prelude.{◌+◌, ◌-◌, ◌<◌, ◌≤◌}
 use Rattle.std.proofs.lemmas.Bool.{cases_Bool, ne_eqb}
+use Rattle.std.proofs.lemmas.List.{take_all}
 use Rattle.std.specs.List.{list_any}
 use Rattle.csv.specs.Writing.{default_writer, escaped, field_text, is_blank, needs_byte, next_sep, row_body, row_text}
 use Rattle.csv.proofs.WriteFacts.{row-step}
@@ -61,24 +62,32 @@ text_of_more cells more =
     rw shows refl
 
 -- the first cell, and a comma behind it
-pub first_behind : (cells : List (List ℕ)) (start new cell : List ℕ) → 0 < length cells → cell ≡ get_or cells 0 [] → new ≡ start ++ (field_text default_writer cell ++ 44 ∷ [])
+pub first_behind : (cells : List (List ℕ)) (tag : ℕ) (start new : List ℕ) → 0 < length cells → field_text default_writer (get_or cells 0 []) ≡ tag ∷ [] → new ≡ start ++ (tag ∷ 44 ∷ [])
     → new ≡ start ++ (row_body default_writer (take 1 cells) ++ 44 ∷ [])
-first_behind cells start new cell some is grown =
-    grown ∙ ap (λ (c : List ℕ). start ++ (field_text default_writer c ++ 44 ∷ [])) is ∙ ap (λ (t : List ℕ). start ++ (t ++ 44 ∷ [])) (sym (first_body cells some))
+first_behind cells tag start new some is grown =
+    grown ∙ ap (λ (t : List ℕ). start ++ (t ++ 44 ∷ [])) (sym is) ∙ ap (λ (t : List ℕ). start ++ (t ++ 44 ∷ [])) (sym (first_body cells some))
 
-commas_behind : (start body text : List ℕ) → (start ++ (body ++ 44 ∷ [])) ++ (text ++ 44 ∷ []) ≡ start ++ ((body ++ (44 ∷ text)) ++ 44 ∷ [])
-commas_behind start body text = simp (append_assoc) refl
+byte_behind : (start body text : List ℕ) (end : ℕ) → (start ++ (body ++ 44 ∷ [])) ++ (text ++ end ∷ []) ≡ start ++ ((body ++ (44 ∷ text)) ++ end ∷ [])
+byte_behind start body text end = simp (append_assoc) refl
 
--- one cell more, and a comma behind it
-pub next_behind : (cells : List (List ℕ)) (i : ℕ) (start old new cell : List ℕ) → 0 < i → i < length cells → cell ≡ get_or cells i []
-    → old ≡ start ++ (row_body default_writer (take i cells) ++ 44 ∷ []) → new ≡ old ++ (field_text default_writer cell ++ 44 ∷ [])
-    → new ≡ start ++ (row_body default_writer (take (i + 1) cells) ++ 44 ∷ [])
-next_behind cells i start old new cell some within is before grown =
+-- one cell more, and a byte behind it
+pub next_behind : (cells : List (List ℕ)) (i end : ℕ) (start old new cell : List ℕ) → 0 < i → i < length cells → cell ≡ get_or cells i []
+    → old ≡ start ++ (row_body default_writer (take i cells) ++ 44 ∷ []) → new ≡ old ++ (field_text default_writer cell ++ end ∷ [])
+    → new ≡ start ++ (row_body default_writer (take (i + 1) cells) ++ end ∷ [])
+next_behind cells i end start old new cell some within is before grown =
     grown
-    ∙ ap (λ (c : List ℕ). old ++ (field_text default_writer c ++ 44 ∷ [])) is
-    ∙ ap (λ (t : List ℕ). t ++ (field_text default_writer (get_or cells i []) ++ 44 ∷ [])) before
-    ∙ commas_behind start (row_body default_writer (take i cells)) (field_text default_writer (get_or cells i []))
-    ∙ ap (λ (t : List ℕ). start ++ (t ++ 44 ∷ [])) (sym (next_body cells i some within))
+    ∙ ap (λ (c : List ℕ). old ++ (field_text default_writer c ++ end ∷ [])) is
+    ∙ ap (λ (t : List ℕ). t ++ (field_text default_writer (get_or cells i []) ++ end ∷ [])) before
+    ∙ byte_behind start (row_body default_writer (take i cells)) (field_text default_writer (get_or cells i [])) end
+    ∙ ap (λ (t : List ℕ). start ++ (t ++ end ∷ [])) (sym (next_body cells i some within))
+
+-- the last cell, and a line feed behind it
+pub last_behind : (cells : List (List ℕ)) (i : ℕ) (start old new cell : List ℕ) → 0 < i → length cells ≡ i + 1 → cell ≡ get_or cells i []
+    → old ≡ start ++ (row_body default_writer (take i cells) ++ 44 ∷ []) → new ≡ old ++ (field_text default_writer cell ++ 10 ∷ []) → new ≡ start ++ row_text default_writer cells
+last_behind cells i start old new cell some count is before grown =
+    next_behind cells i 10 start old new cell some (omega (arith, count)) is before grown
+    ∙ ap (λ (cs : List (List ℕ)). start ++ (row_body default_writer cs ++ 10 ∷ [])) (take_all (i + 1) cells (omega (arith, count)))
+    ∙ ap (λ (t : List ℕ). start ++ t) (sym (text_of_more cells (omega (arith, some, count))))
 
 -- a line whose last comma gives way to a line feed
 pub last_given_way : (line old kept : List ℕ) (n : ℕ) → old ≡ line ++ 44 ∷ [] → n ≡ length old → kept ≡ take (n - 1) old → kept ++ 10 ∷ [] ≡ line ++ 10 ∷ []

@@ -9,6 +9,7 @@ ghost use Rattle.wsm_deal.specs.Parts.{Befores, Dealt, EachBegan, EachHas, EachT
 use crate::ahead::Ahead;
 use crate::part::Part;
 use crate::row_text::add_row;
+use crate::shared_text::block_of;
 use crate::shares::{Goal, Shares};
 use csv::ByteRecord;
 use std::alloc::AllocError;
@@ -176,8 +177,9 @@ fn deal_to_all<D: Device>(
     text.clear();
     add_row(row, text)?;
     let text = text.as_slice();
+    let block = block_of(text);
     for part in parts.iter_mut() {
-        part.add_text(row, text)?;
+        part.add_text(row, text, &block)?;
     }
     Ok(())
 }

@@ -16,5 +16,6 @@ mod guesses;
 pub mod laws;
 mod part;
 mod row_text;
+mod shared_text;
 mod shares;
 mod words;

@@ -6,6 +6,7 @@ ghost use Rattle.wsm_deal.specs.PartText.{has_mark, is_marked, mark_before};
 
 use crate::dealing::DealEnd;
 use crate::row_text::add_row;
+use crate::shared_text::{BLOCK, add_text};
 use csv::ByteRecord;
 use std::alloc::{AllocError, Global};
 use wsm_csv::{Device, DeviceFault, write_out};
@@ -23,7 +24,7 @@ pub struct Part<D> {
 }
 
 impl<D: Device> Part<D> {
-    ghost use Rattle.std.specs.Prelude.{◌≡◌, ◌≢◌, ◌∷◌, ◌++◌, [], ℕ, List, Option, Err, OnOk, OnErr, true, if◌then◌else◌};
+    ghost use Rattle.std.specs.Prelude.{◌≡◌, ◌≢◌, ◌≤◌, ◌∷◌, ◌++◌, [], ℕ, List, length, take, Option, Err, OnOk, OnErr, true, if◌then◌else◌};
     ghost use Rattle.std.specs.Io.KnownBytes.{Appends};
     ghost use Rattle.csv.specs.Records.{fields_of};
     ghost use Rattle.csv.specs.Writing.{default_writer, row_text};
@@ -58,15 +59,21 @@ impl<D: Device> Part<D> {
         Ok(())
     }
 
-    /// The same by the row's text.
-    pub(crate) fn add_text(&mut self, row: &ByteRecord, text: &[u8]) -> Result<(), DealEnd>
-        requires { text.now ≡ row_text default_writer (fields_of row.now) }
+    /// The same by the row's text. Where it is no longer than a block, the block begins with it.
+    pub(crate) fn add_text(
+        &mut self,
+        row: &ByteRecord,
+        text: &[u8],
+        block: &[u8; BLOCK],
+    ) -> Result<(), DealEnd>
+        requires text { text.now ≡ row_text default_writer (fields_of row.now) }
+        requires block { length text.now ≤ BLOCK → take (length text.now) block.now ≡ text.now }
         ensures adds { (old : Option (List ℕ)) (rows : List (List (List ℕ))) → Has D.taken old rows self.old → OnOk result (Has D.taken old (rows ++ fields_of row.now ∷ []) self.new) }
         ensures part { (old : Option (List ℕ)) (rows : List (List (List ℕ))) → Has D.taken old rows self.old → OnErr result (TakesPart old (D.taken (out_of self.new)) (part_text (rows ++ fields_of row.now ∷ []))) }
         ensures reads_none { result ≢ Err DealEnd.ReadFailed }
         ensures write_failed { result ≡ Err DealEnd.WriteFailed → D.has_failed (out_of self.new) ≡ true }
     {
-        self.keep_text(row, text)?;
+        self.keep_text(row, text, block)?;
         if FULL <= self.text.len() {
             self.hand_on()?;
         }
@@ -84,13 +91,19 @@ impl<D: Device> Part<D> {
     }
 
     // The same by the row's text.
-    fn keep_text(&mut self, row: &ByteRecord, text: &[u8]) -> Result<(), AllocError>
-        requires { text.now ≡ row_text default_writer (fields_of row.now) }
+    fn keep_text(
+        &mut self,
+        row: &ByteRecord,
+        text: &[u8],
+        block: &[u8; BLOCK],
+    ) -> Result<(), AllocError>
+        requires text { text.now ≡ row_text default_writer (fields_of row.now) }
+        requires block { length text.now ≤ BLOCK → take (length text.now) block.now ≡ text.now }
         ensures adds { (old : Option (List ℕ)) (rows : List (List (List ℕ))) → Has D.taken old rows self.old → OnOk result (Has D.taken old (rows ++ fields_of row.now ∷ []) self.new) }
         ensures out { self.new.out ≡ self.old.out }
     {
         self.open(row)?;
-        self.text.extend_from_slice(text)
+        add_text(text, block, &mut self.text)
     }
 
     // Begins the text where the row is the first.

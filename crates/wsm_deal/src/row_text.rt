@@ -1,6 +1,6 @@
 //! The text of a row, which is read back as the row.
 
-ghost use Rattle.std.specs.Prelude.{◌≡◌, ◌<◌, ◌≤◌, ◌+◌, ◌++◌, ◌∷◌, [], ℕ, List, false, get_or, length, not, take, true, vec_capacity, vec_len, if◌then◌else◌, OnOk};
+ghost use Rattle.std.specs.Prelude.{◌≡◌, ◌<◌, ◌≤◌, ◌+◌, ◌++◌, ◌∷◌, [], ℕ, List, false, get_or, length, not, take, true, vec_capacity, vec_len, if◌then◌else◌, IfSome, OnOk};
 ghost use Rattle.std.specs.List.{list_any};
 ghost use Rattle.csv.specs.Records.{fields_of};
 ghost use Rattle.csv.specs.Writing as csv;
@@ -20,9 +20,38 @@ const SHORT_ROOM: usize = 16 * FEW + 1;
 pub(crate) fn add_row(row: &ByteRecord, out: &mut Vec<u8>) -> Result<(), AllocError>
     ensures { OnOk result (out.new.items ≡ out.old.items ++ csv.row_text csv.default_writer (fields_of row.now)) }
 {
+    match short_tag(row) {
+        Some(tag) => add_tagged_row(tag, row, out),
+        None => add_long_row(row, out),
+    }
+}
+
+// The first cell of a row of three to eight cells, where it is one byte that needs no quotes, as the tag of most
+// records is.
+#[inline(always)]
+fn short_tag(row: &ByteRecord) -> Option<u8>
+    ensures cells { IfSome result (λ _. (3 ≤ length (fields_of row.now)) × (length (fields_of row.now) ≤ FEW)) }
+    ensures tag { IfSome result (λ tag. csv.field_text csv.default_writer (get_or (fields_of row.now) 0 []) ≡ tag ∷ []) }
+{
+    if row.len() < 3 || FEW < row.len() {
+        return None;
+    }
+    match cell_at(row, 0) {
+        [tag] if is_bare(*tag) => Some(*tag),
+        _ => None,
+    }
+}
+
+// Adds the text of a row of three to eight cells of which the first is this byte.
+#[inline(always)]
+fn add_tagged_row(tag: u8, row: &ByteRecord, out: &mut Vec<u8>) -> Result<(), AllocError>
+    requires cells { (3 ≤ length (fields_of row.now)) × (length (fields_of row.now) ≤ FEW) }
+    requires tag { csv.field_text csv.default_writer (get_or (fields_of row.now) 0 []) ≡ tag ∷ [] }
+    ensures { OnOk result (out.new.items ≡ out.old.items ++ csv.row_text csv.default_writer (fields_of row.now)) }
+{
     let start = out.len();
     make_short_room(out)?;
-    if add_short_row(row, out) {
+    if add_short_row(tag, row, out) {
         return Ok(());
     }
     out.truncate(start);
@@ -41,37 +70,42 @@ fn make_short_room(out: &mut Vec<u8>) -> Result<(), AllocError>
     Ok(())
 }
 
-// Adds the text of a row of three to eight short cells, as most records are, that need no quotes, and answers
-// whether it did. Of another one a part may be added.
+// Adds the text of a row of three to eight cells of which the first is this byte, where the others are short and
+// need no quotes, as in most records, and answers whether it did. Of another one a part may be added.
 #[inline(always)]
-fn add_short_row(row: &ByteRecord, out: &mut Vec<u8>) -> bool
-    requires { vec_len out.old + SHORT_ROOM ≤ vec_capacity out.old }
+fn add_short_row(tag: u8, row: &ByteRecord, out: &mut Vec<u8>) -> bool
+    requires cells { (3 ≤ length (fields_of row.now)) × (length (fields_of row.now) ≤ FEW) }
+    requires tag { csv.field_text csv.default_writer (get_or (fields_of row.now) 0 []) ≡ tag ∷ [] }
+    requires room { vec_len out.old + SHORT_ROOM ≤ vec_capacity out.old }
     ensures all { result ≡ true → out.new.items ≡ out.old.items ++ csv.row_text csv.default_writer (fields_of row.now) }
     ensures kept { take (length out.old.items) out.new.items ≡ out.old.items }
 {
     let empty = Vec::new(*out.allocator());
-    let (is_short, text) = with_short_row(row, mem::replace(out, empty));
+    let (is_short, text) = with_short_row(tag, row, mem::replace(out, empty));
     // What is let go is empty, so it holds no memory.
     mem::forget(mem::replace(out, text));
     is_short
 }
 
-// The same to a text by value, whose length can stay in a register.
+// The same to a text by value, whose length can stay in a register. Four cells, as most records have, take no loop.
 #[inline(always)]
-fn with_short_row(row: &ByteRecord, mut text: Vec<u8>) -> (bool, Vec<u8>)
-    requires { vec_len text + SHORT_ROOM ≤ vec_capacity text }
+fn with_short_row(tag: u8, row: &ByteRecord, mut text: Vec<u8>) -> (bool, Vec<u8>)
+    requires cells { (3 ≤ length (fields_of row.now)) × (length (fields_of row.now) ≤ FEW) }
+    requires tag { csv.field_text csv.default_writer (get_or (fields_of row.now) 0 []) ≡ tag ∷ [] }
+    requires room { vec_len text + SHORT_ROOM ≤ vec_capacity text }
     ensures all { result.0 ≡ true → result.1.items ≡ text.items ++ csv.row_text csv.default_writer (fields_of row.now) }
     ensures kept { take (length text.items) result.1.items ≡ text.items }
 {
-    let cells = row.len();
-    if cells < 3 || FEW < cells {
+    if !add_three(tag, row, &mut text) {
         return (false, text);
     }
-    if !add_three(row, &mut text) {
-        return (false, text);
+    let cells = row.len();
+    if cells == 4 {
+        let is_short = add_short(cell_at(row, 3), b'\n', &mut text);
+        return (is_short, text);
     }
     for place in 3..cells {
-        if !add_short(cell_at(row, place), &mut text) {
+        if !add_short(cell_at(row, place), b',', &mut text) {
             return (false, text);
         }
     }
@@ -79,23 +113,22 @@ fn with_short_row(row: &ByteRecord, mut text: Vec<u8>) -> (bool, Vec<u8>)
     (true, text)
 }
 
-// Adds the first three cells of a row, where they are short and need no quotes, with a comma behind each, and
-// answers whether it did. Of others a part may be added.
+// Adds the first three cells of a row, of which the first is this byte, where the others are short and need no
+// quotes, with a comma behind each, and answers whether it did. Of others a part may be added.
 #[inline(always)]
-fn add_three(row: &ByteRecord, out: &mut Vec<u8>) -> bool
+fn add_three(tag: u8, row: &ByteRecord, out: &mut Vec<u8>) -> bool
     requires cells { 3 ≤ length (fields_of row.now) }
+    requires tag { csv.field_text csv.default_writer (get_or (fields_of row.now) 0 []) ≡ tag ∷ [] }
     requires room { vec_len out.old + 48 ≤ vec_capacity out.old }
     ensures room { (vec_len out.new ≤ vec_len out.old + 48) × (vec_capacity out.new ≡ vec_capacity out.old) }
     ensures all { result ≡ true → out.new.items ≡ out.old.items ++ (csv.row_body csv.default_writer (take 3 (fields_of row.now)) ++ 44 ∷ []) }
     ensures kept { take (length out.old.items) out.new.items ≡ out.old.items }
 {
-    if !add_short(cell_at(row, 0), out) {
+    push_two(tag, b',', out);
+    if !add_short(cell_at(row, 1), b',', out) {
         return false;
     }
-    if !add_short(cell_at(row, 1), out) {
-        return false;
-    }
-    add_short(cell_at(row, 2), out)
+    add_short(cell_at(row, 2), b',', out)
 }
 
 // Ends a row in the place of the comma behind its last cell.
@@ -108,18 +141,18 @@ fn end_line(out: &mut Vec<u8>)
     out.push_reserved(b'\n');
 }
 
-// Adds a cell of 15 bytes or less that needs no quotes, and a comma behind it, and answers whether it did.
+// Adds a cell of 15 bytes or less that needs no quotes, and a byte behind it, and answers whether it did.
 #[inline(always)]
-fn add_short(cell: &[u8], out: &mut Vec<u8>) -> bool
+fn add_short(cell: &[u8], end: u8, out: &mut Vec<u8>) -> bool
     requires { vec_len out.old + 16 ≤ vec_capacity out.old }
     ensures room { (vec_len out.new ≤ vec_len out.old + 16) × (vec_capacity out.new ≡ vec_capacity out.old) }
-    ensures all { result ≡ true → out.new.items ≡ out.old.items ++ (csv.field_text csv.default_writer cell.now ++ 44 ∷ []) }
+    ensures all { result ≡ true → out.new.items ≡ out.old.items ++ (csv.field_text csv.default_writer cell.now ++ end ∷ []) }
     ensures kept { take (length out.old.items) out.new.items ≡ out.old.items }
 {
     let behind_four = add_four(cell, out);
     let behind_eight = add_four(behind_four, out);
     let rest = add_four(behind_eight, out);
-    add_few(rest, out)
+    add_few(rest, end, out)
 }
 
 // Adds the first four bytes of a cell at once, where there are so many and none needs quotes, and gives the rest.
@@ -140,30 +173,30 @@ fn add_four<'a>(cell: &'a [u8], out: &mut Vec<u8>) -> &'a [u8]
     }
 }
 
-// Adds a cell of three bytes or less that needs no quotes, and a comma behind it, and answers whether it did.
+// Adds a cell of three bytes or less that needs no quotes, and a byte behind it, and answers whether it did.
 // Of another one nothing is added.
 #[inline(always)]
-fn add_few(cell: &[u8], out: &mut Vec<u8>) -> bool
+fn add_few(cell: &[u8], end: u8, out: &mut Vec<u8>) -> bool
     requires { vec_len out.old + 4 ≤ vec_capacity out.old }
     ensures room { (vec_len out.new ≤ vec_len out.old + 4) × (vec_capacity out.new ≡ vec_capacity out.old) }
-    ensures all { out.new.items ≡ (if result then out.old.items ++ (cell.now ++ 44 ∷ []) else out.old.items) }
+    ensures all { out.new.items ≡ (if result then out.old.items ++ (cell.now ++ end ∷ []) else out.old.items) }
     ensures needs { result ≡ true → csv.needs_quotes csv.default_writer cell.now ≡ false }
 {
     match cell {
         [] => {
-            out.push_reserved(b',');
+            out.push_reserved(end);
             true
         }
         [a] if is_bare(*a) => {
-            push_two(*a, b',', out);
+            push_two(*a, end, out);
             true
         }
         [a, b] if is_bare(*a) && is_bare(*b) => {
-            push_three(*a, *b, b',', out);
+            push_three(*a, *b, end, out);
             true
         }
         [a, b, c] if is_bare(*a) && is_bare(*b) && is_bare(*c) => {
-            push_four(*a, *b, *c, b',', out);
+            push_four(*a, *b, *c, end, out);
             true
         }
         _ => false,
