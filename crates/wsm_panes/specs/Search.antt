@@ -1,5 +1,5 @@
 -- Where a search for a place ends.
-use Rattle.std.specs.Prelude.{◌≡◌, ℕ, ◌<◌, ◌≤◌, List, length, Option, None, Some, slice_get, slice_index_or, slice_set, insert}
+use Rattle.std.specs.Prelude.{◌≡◌, ℕ, ℤ, ◌<◌, ◌≤◌, List, length, Option, None, Some, slice_get, slice_index_or, slice_set, insert}
 use Rattle.std.specs.FinMap.{find, put}
 use Rattle.wsm_windows.specs.declared.place.Place.{Place}
 use Rattle.wsm_windows.specs.Places.{place_cmp}
@@ -27,3 +27,7 @@ pub record IsSlotOf {P : Type 0} (slots : List (Option (Place × P))) (row : Lis
   pub here : slice_get row number ≡ Some slot
   pub once : listed slot row ≡ 1
   pub is : IsAt (shown slots row) place number
+
+-- so many entries stand before each place whose window ends at a time
+pub record AreBeforeAllOf {P : Type 0} (end : ℤ) (count : ℕ) (es : List (Place × P)) : Type 0 where
+  pub counts : (place : Place) → place.end ≡ end → count ≤ before place_cmp place es

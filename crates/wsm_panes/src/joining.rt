@@ -3,6 +3,7 @@
 ghost use Rattle.std.specs.Prelude.{◌≡◌, ◌<◌, ◌≤◌, ◌≤ℤ◌, ℤ, pos, true, false, ◌∷◌, List, length, nat_eq, nat_lt, Some, IsSome, IsTrue};
 ghost use Rattle.std.specs.FinMap as map;
 ghost use Rattle.wsm_record.specs.declared.limits.TheConstants.{MAX_ACCUMULATORS};
+ghost use Rattle.wsm_windows.specs.Places.{at};
 ghost use Rattle.wsm_windows.specs.Windows.{IsTime};
 ghost use Rattle.wsm_fold.specs.Fold.{are_of_kinds};
 ghost use Rattle.wsm_semantics.specs.Sessions.{with_session};
@@ -14,6 +15,7 @@ ghost use Rattle.wsm_panes.specs.Layout.{IsAsWide};
 use crate::list::ListTable;
 use crate::pane::Pane;
 use crate::recording::TakesRecords;
+use crate::spot::rebuilt_place;
 use crate::table::PaneTable;
 use crate::view::PaneView;
 use wsm_record::{Kind, Value};
@@ -55,7 +57,7 @@ pub(crate) fn enter_session(
     let place = Place::at(key, entry.session);
     match entry.linked {
         Linked::None => {
-            table.enter(place, kinds, values);
+            table.enter(rebuilt_place(place), kinds, values);
             (entry.session, false)
         }
         Linked::One(window) => {
@@ -65,21 +67,29 @@ pub(crate) fn enter_session(
             (entry.session, false)
         }
         Linked::Two(first, second) => {
-            let first = Place::at(key, first);
-            let second = Place::at(key, second);
-            enter_joined(table, first, second, place, kinds, values);
+            enter_joined(
+                table,
+                key,
+                first,
+                second,
+                rebuilt_place(place),
+                kinds,
+                values,
+            );
             (entry.session, true)
         }
     }
 }
 
-// Puts a record into what the panes at two places come to together, which goes to another place. Its
-// frame is large, so it isn't inlined.
+// Puts a record into what the panes of two windows of a key come to together, which goes to another
+// place. Its frame is large, so it isn't inlined, and it makes the places of the two itself, so that no
+// room for them is cleared where none are joined.
 #[inline(never)]
 fn enter_joined(
     table: &mut ListTable,
-    first: Place,
-    second: Place,
+    key: u16,
+    first: Window,
+    second: Window,
     to: Place,
     kinds: &[Kind],
     values: &[Value],
@@ -87,11 +97,13 @@ fn enter_joined(
     requires few { length values.now ≤ MAX_ACCUMULATORS }
     requires wide { length values.now ≡ table.old.widths.accumulators }
     requires types { IsTrue (are_of_kinds kinds.now values.now) }
-    requires can { CanJoinAt kinds.now values.now first second to table.old.panes table.old.room }
-    ensures panes { JoinedAt kinds.now values.now first second to table.old.panes table.new.panes }
+    requires can { CanJoinAt kinds.now values.now (at key first) (at key second) to table.old.panes table.old.room }
+    ensures panes { JoinedAt kinds.now values.now (at key first) (at key second) to table.old.panes table.new.panes }
     ensures room { table.new.room ≡ table.old.room }
     ensures widths { table.new.widths ≡ table.old.widths }
 {
+    let first = Place::at(key, first);
+    let second = Place::at(key, second);
     let mut pane = take(table, first);
     let other = take(table, second);
     pane.join(kinds, &other);

@@ -53,6 +53,7 @@ mod recording;
 mod ring;
 mod ring_table;
 mod row_words;
+mod search;
 mod slot_row;
 mod slots;
 mod spot;

@@ -1,8 +1,7 @@
 //! A table kept as a sorted list.
 
-ghost use Rattle.std.specs.Prelude.{◌≡◌, ◌⊎◌, ◌<◌, ◌≤◌, ◌^◌, List, None, Some, IfOk, IfErr, IfSome, IsSome, IsTrue, drop, filter, length, not, option_map, slice_get, take};
+ghost use Rattle.std.specs.Prelude.{◌≡◌, ◌⊎◌, ◌<◌, ◌≤◌, ◌^◌, List, None, Some, IfOk, IfSome, IsSome, IsTrue, drop, filter, length, option_map, slice_get, take};
 ghost use Rattle.std.specs.FinMap as map;
-ghost use Rattle.std.specs.Ordering.{is_gt};
 ghost use Rattle.wsm_fold.specs.Fold.{are_of_kinds};
 ghost use Rattle.wsm_record.specs.declared.event.Value.{Value as OneValue};
 ghost use Rattle.wsm_record.specs.declared.limits.TheConstants.{MAX_ACCUMULATORS, MAX_COLUMNS};
@@ -11,13 +10,14 @@ ghost use Rattle.wsm_windows.specs.Places.{place_cmp};
 ghost use Rattle.wsm_semantics.specs.Summaries.{Pane as AnyPane};
 ghost use Rattle.wsm_panes.specs.Held.{CanRecord, with_one_more, FiresAt, recorded_at, recorded_from};
 ghost use Rattle.wsm_panes.specs.Layout.{IsAsWide};
-ghost use Rattle.wsm_panes.specs.Place.{before, is_kept, is_other};
-ghost use Rattle.wsm_panes.specs.Search.{IsAt, IsGapFor, IsSlotOf};
+ghost use Rattle.wsm_panes.specs.Place.{is_other};
+ghost use Rattle.wsm_panes.specs.Search.{IsSlotOf};
 ghost use Rattle.wsm_panes.specs.Stored.{AreFreed, AreIn, AreListed, AreStored, shown};
-ghost use Rattle.wsm_panes.specs.Walk.{first_past, place_due, place_found};
+ghost use Rattle.wsm_panes.specs.Walk.{place_due, place_found};
 
 use crate::layout::Slots;
 use crate::pane::Pane;
+use crate::search::{count_before, ended, number_at, number_of, place_at, search};
 use crate::slot_row::SlotRow;
 use crate::slots::is_at;
 use crate::spot::{Spot, due};
@@ -25,7 +25,6 @@ use crate::table::PaneTable;
 use crate::view::PaneView;
 use crate::widths::Widths;
 use std::alloc::{AllocError, Global};
-use std::cmp::Ordering;
 use std::marker::Model;
 use wsm_record::{Cell, Kind, Mode, Value};
 use wsm_windows::Place;
@@ -123,7 +122,15 @@ impl ListTable {
         if from == to {
             record_at(&self.row, &mut self.slots, guess, to, kinds, values)
         } else {
-            move_in(&mut self.row, &mut self.slots, from, to, kinds, values)
+            move_in(
+                &mut self.row,
+                &mut self.slots,
+                guess,
+                from,
+                to,
+                kinds,
+                values,
+            )
         }
     }
 
@@ -222,31 +229,6 @@ fn pane_at(row: &SlotRow, slots: &Slots, place: Place) -> Option<Pane>
     }
 }
 
-// The place of the entry of a number.
-fn place_at(row: &SlotRow, slots: &Slots, at: usize) -> Place
-    requires stored { AreStored slots.now.slots row.now.row }
-    requires within { at < length row.now.row }
-    ensures { option_map (λ e. e.0) (slice_get (shown slots.now.slots row.now.row) at) ≡ Some result }
-{
-    slots.held_place(row.get(at))
-}
-
-// The number of the entry at a spot.
-fn number_of(row: &SlotRow, slots: &Slots, spot: Spot) -> usize
-    requires stored { AreStored slots.now.slots row.now.row }
-    requires there { IsSome (map.find place_cmp spot.place (shown slots.now.slots row.now.row)) }
-    ensures at { IsAt (shown slots.now.slots row.now.row) spot.place result }
-    ensures within { result < length row.now.row }
-    ensures countable { length row.now.row < 2 ^ 64 }
-{
-    if spot.at < row.len() {
-        if let Ordering::Equal = spot.place.cmp(&place_at(row, slots, spot.at)) {
-            return spot.at;
-        }
-    }
-    search(row, slots, spot.place).unwrap()
-}
-
 // Where the entry of a number is, if there is one and its window ends by a limit.
 fn due_at(row: &SlotRow, slots: &Slots, at: usize, limit: i64) -> Option<Spot>
     requires { AreStored slots.now.slots row.now.row }
@@ -257,134 +239,6 @@ fn due_at(row: &SlotRow, slots: &Slots, at: usize, limit: i64) -> Option<Spot>
     } else {
         None
     }
-}
-
-// How many entries have a window that ends by a time: the first ones.
-fn ended(row: &SlotRow, slots: &Slots, time: i64) -> usize
-    requires { AreStored slots.now.slots row.now.row }
-    ensures within { result ≤ length row.now.row }
-    ensures next { first_past time (shown slots.now.slots row.now.row) ≡ slice_get (shown slots.now.slots row.now.row) result }
-    ensures left { filter (λ e. is_kept time e.0) (shown slots.now.slots row.now.row) ≡ drop result (shown slots.now.slots row.now.row) }
-{
-    let mut low = 0;
-    let mut high = row.len();
-    while low < high {
-        let middle = low + (high - low) / 2;
-        if expires(place_at(row, slots, middle), time) {
-            low = middle + 1;
-        } else {
-            high = middle;
-        }
-    }
-    low
-}
-
-// Whether a place has a window with an end of at most the limit.
-fn expires(place: Place, limit: i64) -> bool
-    ensures { result ≡ not (is_kept limit place) }
-{
-    place.end <= limit
-}
-
-// Where the place is, or where it would go.
-fn search(row: &SlotRow, slots: &Slots, place: Place) -> Result<usize, usize>
-    requires { AreStored slots.now.slots row.now.row }
-    ensures found { IfOk result (IsAt (shown slots.now.slots row.now.row) place) }
-    ensures absent { IfErr result (IsGapFor (shown slots.now.slots row.now.row) place) }
-    ensures within { IfOk result (λ i. i < length row.now.row) }
-    ensures until { IfErr result (λ i. i ≤ length row.now.row) }
-{
-    let at = count_before(row, slots, place);
-    if at == row.len() {
-        Err(at)
-    } else if place_at(row, slots, at) == place {
-        Ok(at)
-    } else {
-        Err(at)
-    }
-}
-
-// How many entries stand before a place.
-#[inline(always)]
-fn count_before(row: &SlotRow, slots: &Slots, place: Place) -> usize
-    requires { AreStored slots.now.slots row.now.row }
-    ensures count { result ≡ before place_cmp place (shown slots.now.slots row.now.row) }
-    ensures within { result ≤ length row.now.row }
-{
-    match row.numbers() {
-        Some(numbers) => count_in(numbers, slots, place),
-        None => count_by_number(row, slots, place),
-    }
-}
-
-// How many entries stand before a place, where the numbers lie side by side. In which half it is can't
-// be foretold, so no branch is taken by it.
-#[inline(always)]
-fn count_in(numbers: &[u32], slots: &Slots, place: Place) -> usize
-    requires { AreStored slots.now.slots numbers.now }
-    ensures count { result ≡ before place_cmp place (shown slots.now.slots numbers.now) }
-    ensures within { result ≤ length numbers.now }
-{
-    let mut low = 0;
-    let mut size = numbers.len();
-    while size > 1 {
-        let half = size / 2;
-        if is_before(place_of(numbers, slots, low + half - 1), place) {
-            low += half;
-        }
-        size -= half;
-    }
-    if size > 0 && is_before(place_of(numbers, slots, low), place) {
-        low + 1
-    } else {
-        low
-    }
-}
-
-// The place of the entry of a number, where the numbers lie side by side.
-#[inline(always)]
-fn place_of(numbers: &[u32], slots: &Slots, at: usize) -> Place
-    requires stored { AreStored slots.now.slots numbers.now }
-    requires within { at < length numbers.now }
-    ensures { option_map (λ e. e.0) (slice_get (shown slots.now.slots numbers.now) at) ≡ Some result }
-{
-    slots.held_place(numbers[at] as usize)
-}
-
-// How many entries stand before a place, where each number is asked for. No branch is taken by what it
-// finds here either.
-#[cold]
-#[inline(never)]
-fn count_by_number(row: &SlotRow, slots: &Slots, place: Place) -> usize
-    requires { AreStored slots.now.slots row.now.row }
-    ensures count { result ≡ before place_cmp place (shown slots.now.slots row.now.row) }
-    ensures within { result ≤ length row.now.row }
-{
-    let mut low = 0;
-    let mut size = row.len();
-    while size > 1 {
-        let half = size / 2;
-        if is_before(place_at(row, slots, low + half - 1), place) {
-            low += half;
-        }
-        size -= half;
-    }
-    if size > 0 && is_before(place_at(row, slots, low), place) {
-        low + 1
-    } else {
-        low
-    }
-}
-
-// Whether a place stands before another. All parts are compared, so that no branch is taken.
-#[inline(always)]
-fn is_before(place: Place, other: Place) -> bool
-    ensures { result ≡ is_gt (place_cmp other place) }
-{
-    (place.end < other.end)
-        | ((place.end == other.end)
-            & ((place.start < other.start)
-                | ((place.start == other.start) & (place.key < other.key))))
 }
 
 // Sets the pane at a place.
@@ -469,10 +323,11 @@ fn slot_of(row: &SlotRow, slots: &Slots, guess: usize, place: Place) -> usize
 }
 
 // Puts a record into the pane at a place, which goes to another place then, and tells its slot, which
-// stands elsewhere in the row then.
+// stands elsewhere in the row then. One that is guessed is looked at first.
 fn move_in(
     row: &mut SlotRow,
     slots: &mut Slots,
+    guess: usize,
     from: Place,
     to: Place,
     kinds: &[Kind],
@@ -492,7 +347,7 @@ fn move_in(
     ensures room { (row.new.room ≡ row.old.room) × (length slots.new.slots ≡ length slots.old.slots) }
     ensures widths { slots.new.widths ≡ slots.old.widths }
 {
-    let old = count_before(row, slots, from);
+    let old = number_at(row, slots, guess, from);
     let gap = count_before(row, slots, to);
     let new = if old < gap { gap - 1 } else { gap };
     let slot = row.shift(old, new);

@@ -1,4 +1,4 @@
-use Rattle.std.proofs.Common.{pos, ℕ, false, ◌≡◌, List, [], ◌∷◌, ap, subst, sym, ◌∙◌, SFits, w64, to_z-of_z}
+use Rattle.std.proofs.Common.{pos, ℕ, false, ◌≡◌, List, [], ◌∷◌, ap, refl, subst, sym, ◌∙◌, SFits, w64, to_z-of_z}
 use Rattle.std.specs.Prelude.{IfSome, Option, filter, nat_eq}
 use Rattle.std.specs.FinMap as map
 use Rattle.std.specs.FinMap.{FinMap}
@@ -69,17 +69,17 @@ none c is = ap those_linked (sym is) ∙ linked_are c
 pub enter-requires-clause-admits : goal.enter-requires-clause-admits
 enter-requires-clause-admits c =
     let s = (goal.at.enter-requires-clause-admits c).After-at-place in
-    merged_fits (taking c.args.kinds.now c.args.values.now) c.args.sessions.now.gap c.args.key c.args.time c.args.table.now.panes c.args.sessions.now.windows c.requires.agree _ _ _ _ (none_puts c.args.kinds.now c.args.values.now c.args.sessions.now.gap c.requires.gap c.args.key c.args.time c.args.table.now.panes c.args.sessions.now.windows c.requires.agree c.at-place.result (place_is s) (none s c.in-None.is)) c.args.table.now.room c.requires.room
+    rw c.rebuilt_place.ensures (merged_fits (taking c.args.kinds.now c.args.values.now) c.args.sessions.now.gap c.args.key c.args.time c.args.table.now.panes c.args.sessions.now.windows c.requires.agree _ _ _ _ (none_puts c.args.kinds.now c.args.values.now c.args.sessions.now.gap c.requires.gap c.args.key c.args.time c.args.table.now.panes c.args.sessions.now.windows c.requires.agree c.at-place.result (place_is s) (none s c.in-None.is)) c.args.table.now.room c.requires.room)
 
 pub enter-requires-clause-takes : goal.enter-requires-clause-takes
 enter-requires-clause-takes c =
     let s = (goal.at.enter-requires-clause-takes c).After-at-place in
-    subst (λ o. IfSome o (CanRecord c.args.kinds.now c.args.values.now)) (sym (none_absent c.args.kinds.now c.args.values.now c.args.sessions.now.gap c.requires.gap c.args.key c.args.time c.args.table.now.panes c.args.sessions.now.windows c.requires.agree c.at-place.result (place_is s) (none s c.in-None.is))) tt
+    rw c.rebuilt_place.ensures (subst (λ o. IfSome o (CanRecord c.args.kinds.now c.args.values.now)) (sym (none_absent c.args.kinds.now c.args.values.now c.args.sessions.now.gap c.requires.gap c.args.key c.args.time c.args.table.now.panes c.args.sessions.now.windows c.requires.agree c.at-place.result (place_is s) (none s c.in-None.is))) tt)
 
 pub returns-in-None-clause-panes : goal.returns-in-None-clause-panes
 returns-in-None-clause-panes c =
     let s = (goal.at.returns-in-None-clause-panes c).After-at-place in
-    entries_are s _ _ _ _ (none_puts c.args.kinds.now c.args.values.now c.args.sessions.now.gap c.requires.gap c.args.key c.args.time c.args.table.now.panes c.args.sessions.now.windows c.requires.agree c.at-place.result (place_is s) (none s c.in-None.is)) c.enter.ensures.panes
+    entries_are s _ _ _ _ (none_puts c.args.kinds.now c.args.values.now c.args.sessions.now.gap c.requires.gap c.args.key c.args.time c.args.table.now.panes c.args.sessions.now.windows c.requires.agree c.at-place.result (place_is s) (none s c.in-None.is)) (rw c.rebuilt_place.ensures at c.enter.ensures.panes)
 
 pub returns-in-None-clause-session : goal.returns-in-None-clause-session
 returns-in-None-clause-session c = session_is (goal.at.returns-in-None-clause-session c).After-at-place
@@ -92,12 +92,12 @@ returns-in-None-clause-joined c =
 pub returns-in-None-clause-agree : goal.returns-in-None-clause-agree
 returns-in-None-clause-agree c =
     let s = (goal.at.returns-in-None-clause-agree c).After-at-place in
-    agrees s _ _ _ _ (none_puts c.args.kinds.now c.args.values.now c.args.sessions.now.gap c.requires.gap c.args.key c.args.time c.args.table.now.panes c.args.sessions.now.windows c.requires.agree c.at-place.result (place_is s) (none s c.in-None.is)) c.enter.ensures.panes
+    agrees s _ _ _ _ (none_puts c.args.kinds.now c.args.values.now c.args.sessions.now.gap c.requires.gap c.args.key c.args.time c.args.table.now.panes c.args.sessions.now.windows c.requires.agree c.at-place.result (place_is s) (none s c.in-None.is)) (rw c.rebuilt_place.ensures at c.enter.ensures.panes)
 
 pub returns-in-None-clause-others : goal.returns-in-None-clause-others
 returns-in-None-clause-others c k other =
     let s = (goal.at.returns-in-None-clause-others c).After-at-place in
-    others_stay s _ _ _ _ (none_puts c.args.kinds.now c.args.values.now c.args.sessions.now.gap c.requires.gap c.args.key c.args.time c.args.table.now.panes c.args.sessions.now.windows c.requires.agree c.at-place.result (place_is s) (none s c.in-None.is)) c.enter.ensures.panes k other
+    others_stay s _ _ _ _ (none_puts c.args.kinds.now c.args.values.now c.args.sessions.now.gap c.requires.gap c.args.key c.args.time c.args.table.now.panes c.args.sessions.now.windows c.requires.agree c.at-place.result (place_is s) (none s c.in-None.is)) (rw c.rebuilt_place.ensures at c.enter.ensures.panes) k other
 
 -- ---- it is linked to one
 
@@ -150,12 +150,12 @@ two c w v is = ap those_linked (sym is) ∙ linked_are c
 pub enter_joined-requires-clause-can : goal.enter_joined-requires-clause-can
 enter_joined-requires-clause-can c =
     let s = (goal.at.enter_joined-requires-clause-can c).After-at-place in
-    two_can c.args.kinds.now c.args.values.now c.args.sessions.now.gap c.requires.gap c.args.key c.args.time c.args.table.now.panes c.args.sessions.now.windows c.requires.agree c.at-place.result (place_is s) c.in-Two.first c.in-Two.second (two s c.in-Two.first c.in-Two.second c.in-Two.is) c.at-first.result c.at-second.result c.at-first.ensures c.at-second.ensures c.requires.joins c.args.table.now.room c.requires.room
+    rw c.rebuilt_place-in-Two.ensures (two_can c.args.kinds.now c.args.values.now c.args.sessions.now.gap c.requires.gap c.args.key c.args.time c.args.table.now.panes c.args.sessions.now.windows c.requires.agree c.at-place.result (place_is s) c.in-Two.first c.in-Two.second (two s c.in-Two.first c.in-Two.second c.in-Two.is) (at c.args.key c.in-Two.first) (at c.args.key c.in-Two.second) refl refl c.requires.joins c.args.table.now.room c.requires.room)
 
 pub returns-in-Two-clause-panes : goal.returns-in-Two-clause-panes
 returns-in-Two-clause-panes c =
     let s = (goal.at.returns-in-Two-clause-panes c).After-at-place in
-    entries_are s _ _ _ _ (two_puts c.args.kinds.now c.args.values.now c.args.sessions.now.gap c.requires.gap c.args.key c.args.time c.args.table.now.panes c.args.sessions.now.windows c.requires.agree c.at-place.result (place_is s) c.in-Two.first c.in-Two.second (two s c.in-Two.first c.in-Two.second c.in-Two.is) c.at-first.result c.at-second.result c.at-first.ensures c.at-second.ensures) (two_put c.args.kinds.now c.args.values.now c.args.sessions.now.gap c.requires.gap c.args.key c.args.time c.args.table.now.panes c.args.sessions.now.windows c.requires.agree c.at-place.result (place_is s) c.in-Two.first c.in-Two.second (two s c.in-Two.first c.in-Two.second c.in-Two.is) c.at-first.result c.at-second.result c.at-first.ensures c.at-second.ensures _ c.enter_joined.ensures.panes)
+    entries_are s _ _ _ _ (two_puts c.args.kinds.now c.args.values.now c.args.sessions.now.gap c.requires.gap c.args.key c.args.time c.args.table.now.panes c.args.sessions.now.windows c.requires.agree c.at-place.result (place_is s) c.in-Two.first c.in-Two.second (two s c.in-Two.first c.in-Two.second c.in-Two.is) (at c.args.key c.in-Two.first) (at c.args.key c.in-Two.second) refl refl) (two_put c.args.kinds.now c.args.values.now c.args.sessions.now.gap c.requires.gap c.args.key c.args.time c.args.table.now.panes c.args.sessions.now.windows c.requires.agree c.at-place.result (place_is s) c.in-Two.first c.in-Two.second (two s c.in-Two.first c.in-Two.second c.in-Two.is) (at c.args.key c.in-Two.first) (at c.args.key c.in-Two.second) refl refl _ (rw c.rebuilt_place-in-Two.ensures at c.enter_joined.ensures.panes))
 
 pub returns-in-Two-clause-session : goal.returns-in-Two-clause-session
 returns-in-Two-clause-session c = session_is (goal.at.returns-in-Two-clause-session c).After-at-place
@@ -163,14 +163,14 @@ returns-in-Two-clause-session c = session_is (goal.at.returns-in-Two-clause-sess
 pub returns-in-Two-clause-joined : goal.returns-in-Two-clause-joined
 returns-in-Two-clause-joined c =
     let s = (goal.at.returns-in-Two-clause-joined c).After-at-place in
-    two_joined c.args.kinds.now c.args.values.now c.args.sessions.now.gap c.requires.gap c.args.key c.args.time c.args.table.now.panes c.args.sessions.now.windows c.requires.agree c.at-place.result (place_is s) c.in-Two.first c.in-Two.second (two s c.in-Two.first c.in-Two.second c.in-Two.is) c.at-first.result c.at-second.result c.at-first.ensures c.at-second.ensures
+    two_joined c.args.kinds.now c.args.values.now c.args.sessions.now.gap c.requires.gap c.args.key c.args.time c.args.table.now.panes c.args.sessions.now.windows c.requires.agree c.at-place.result (place_is s) c.in-Two.first c.in-Two.second (two s c.in-Two.first c.in-Two.second c.in-Two.is) (at c.args.key c.in-Two.first) (at c.args.key c.in-Two.second) refl refl
 
 pub returns-in-Two-clause-agree : goal.returns-in-Two-clause-agree
 returns-in-Two-clause-agree c =
     let s = (goal.at.returns-in-Two-clause-agree c).After-at-place in
-    agrees s _ _ _ _ (two_puts c.args.kinds.now c.args.values.now c.args.sessions.now.gap c.requires.gap c.args.key c.args.time c.args.table.now.panes c.args.sessions.now.windows c.requires.agree c.at-place.result (place_is s) c.in-Two.first c.in-Two.second (two s c.in-Two.first c.in-Two.second c.in-Two.is) c.at-first.result c.at-second.result c.at-first.ensures c.at-second.ensures) (two_put c.args.kinds.now c.args.values.now c.args.sessions.now.gap c.requires.gap c.args.key c.args.time c.args.table.now.panes c.args.sessions.now.windows c.requires.agree c.at-place.result (place_is s) c.in-Two.first c.in-Two.second (two s c.in-Two.first c.in-Two.second c.in-Two.is) c.at-first.result c.at-second.result c.at-first.ensures c.at-second.ensures _ c.enter_joined.ensures.panes)
+    agrees s _ _ _ _ (two_puts c.args.kinds.now c.args.values.now c.args.sessions.now.gap c.requires.gap c.args.key c.args.time c.args.table.now.panes c.args.sessions.now.windows c.requires.agree c.at-place.result (place_is s) c.in-Two.first c.in-Two.second (two s c.in-Two.first c.in-Two.second c.in-Two.is) (at c.args.key c.in-Two.first) (at c.args.key c.in-Two.second) refl refl) (two_put c.args.kinds.now c.args.values.now c.args.sessions.now.gap c.requires.gap c.args.key c.args.time c.args.table.now.panes c.args.sessions.now.windows c.requires.agree c.at-place.result (place_is s) c.in-Two.first c.in-Two.second (two s c.in-Two.first c.in-Two.second c.in-Two.is) (at c.args.key c.in-Two.first) (at c.args.key c.in-Two.second) refl refl _ (rw c.rebuilt_place-in-Two.ensures at c.enter_joined.ensures.panes))
 
 pub returns-in-Two-clause-others : goal.returns-in-Two-clause-others
 returns-in-Two-clause-others c k other =
     let s = (goal.at.returns-in-Two-clause-others c).After-at-place in
-    others_stay s _ _ _ _ (two_puts c.args.kinds.now c.args.values.now c.args.sessions.now.gap c.requires.gap c.args.key c.args.time c.args.table.now.panes c.args.sessions.now.windows c.requires.agree c.at-place.result (place_is s) c.in-Two.first c.in-Two.second (two s c.in-Two.first c.in-Two.second c.in-Two.is) c.at-first.result c.at-second.result c.at-first.ensures c.at-second.ensures) (two_put c.args.kinds.now c.args.values.now c.args.sessions.now.gap c.requires.gap c.args.key c.args.time c.args.table.now.panes c.args.sessions.now.windows c.requires.agree c.at-place.result (place_is s) c.in-Two.first c.in-Two.second (two s c.in-Two.first c.in-Two.second c.in-Two.is) c.at-first.result c.at-second.result c.at-first.ensures c.at-second.ensures _ c.enter_joined.ensures.panes) k other
+    others_stay s _ _ _ _ (two_puts c.args.kinds.now c.args.values.now c.args.sessions.now.gap c.requires.gap c.args.key c.args.time c.args.table.now.panes c.args.sessions.now.windows c.requires.agree c.at-place.result (place_is s) c.in-Two.first c.in-Two.second (two s c.in-Two.first c.in-Two.second c.in-Two.is) (at c.args.key c.in-Two.first) (at c.args.key c.in-Two.second) refl refl) (two_put c.args.kinds.now c.args.values.now c.args.sessions.now.gap c.requires.gap c.args.key c.args.time c.args.table.now.panes c.args.sessions.now.windows c.requires.agree c.at-place.result (place_is s) c.in-Two.first c.in-Two.second (two s c.in-Two.first c.in-Two.second c.in-Two.is) (at c.args.key c.in-Two.first) (at c.args.key c.in-Two.second) refl refl _ (rw c.rebuilt_place-in-Two.ensures at c.enter_joined.ensures.panes)) k other

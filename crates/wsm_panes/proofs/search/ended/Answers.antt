@@ -5,7 +5,7 @@ use Rattle.wsm_panes.specs.Place.{is_kept}
 use Rattle.wsm_panes.specs.Stored.{shown}
 use Rattle.wsm_panes.proofs.Ended.{ended, ended_left, ended_passes, ended_stops, ended_within, past_nth}
 use Rattle.wsm_panes.proofs.StoredEdits.{entry_there, length_is, place_there}
-use Rattle.wsm_panes.proofs.list.ended.Goals as goal
+use Rattle.wsm_panes.proofs.search.ended.Goals as goal
 
 pub loop-low-init : goal.loop-low-init
 loop-low-init c =

@@ -1,7 +1,7 @@
 use Rattle.std.proofs.Common.{ap, ◌∙◌}
 use Rattle.std.specs.Prelude.{option_map}
 use Rattle.wsm_panes.proofs.StoredEdits.{entry_is, has_entry}
-use Rattle.wsm_panes.proofs.list.place_at.Goals as goal
+use Rattle.wsm_panes.proofs.search.place_at.Goals as goal
 
 pub held_place-requires : goal.held_place-requires
 held_place-requires c = has_entry _ _ c.requires.stored c.args.at c.get.result c.get.ensures.here

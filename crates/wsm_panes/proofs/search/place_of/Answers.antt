@@ -2,7 +2,7 @@ use Rattle.std.proofs.Common.{ap, get_or, ◌∙◌}
 use Rattle.std.proofs.lemmas.Option.{slice_get-get_or}
 use Rattle.std.specs.Prelude.{option_map}
 use Rattle.wsm_panes.proofs.StoredEdits.{entry_is, has_entry}
-use Rattle.wsm_panes.proofs.list.place_of.Goals as goal
+use Rattle.wsm_panes.proofs.search.place_of.Goals as goal
 
 pub held_place-requires : goal.held_place-requires
 held_place-requires c = let numbers = c.args.numbers.now in has_entry _ _ c.requires.stored c.args.at (get_or numbers c.args.at 0) (slice_get-get_or numbers c.args.at 0 c.requires.within)

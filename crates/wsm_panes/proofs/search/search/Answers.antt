@@ -8,7 +8,7 @@ use Rattle.wsm_panes.specs.Stored.{shown}
 use Rattle.wsm_panes.proofs.Entries.{Decides-eq_place}
 use Rattle.wsm_panes.proofs.Gaps.{gap_other}
 use Rattle.wsm_panes.proofs.StoredEdits.{at_place, length_is, place_there}
-use Rattle.wsm_panes.proofs.list.search.Goals as goal
+use Rattle.wsm_panes.proofs.search.search.Goals as goal
 
 -- all stand before it
 pub returns-then-at-len-clause-absent : goal.returns-then-at-len-clause-absent

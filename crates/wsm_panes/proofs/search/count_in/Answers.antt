@@ -6,30 +6,30 @@ use Rattle.wsm_panes.specs.Place.{before}
 use Rattle.wsm_panes.specs.Stored.{shown}
 use Rattle.wsm_panes.proofs.Sorted.{before_within, passes_gt, stops}
 use Rattle.wsm_panes.proofs.StoredEdits.{entry_there, length_is, place_there}
-use Rattle.wsm_panes.proofs.list.count_by_number.Goals as goal
-use Rattle.wsm_panes.proofs.list.count_by_number.Goals.{then-is_before, else-is_before, else-size-gt0-via-then-size-gt0+else-is_before-2, else-size-gt0-via-else-size-gt0}
+use Rattle.wsm_panes.proofs.search.count_in.Goals as goal
+use Rattle.wsm_panes.proofs.search.count_in.Goals.{then-is_before, else-is_before, else-size-gt0-via-then-size-gt0+else-is_before-2, else-size-gt0-via-else-size-gt0}
 
 pub loop-size-init : goal.loop-size-init
 loop-size-init c =
-    let es = shown c.args.slots.now.slots c.args.row.now.row in
+    let es = shown c.args.slots.now.slots c.args.numbers.now in
     let long = length_is _ _ c.requires in
     record {
       low = omega arith;
-      high = omega (arith, before_within place_cmp es c.args.place, long, c.len-size.ensures);
-      within = omega (arith, c.len-size.ensures);
+      high = omega (arith, before_within place_cmp es c.args.place, long);
+      within = omega arith;
     }
 
 pub loop-size-preserved : goal.loop-size-preserved
 loop-size-preserved c =
-    let es = shown c.args.slots.now.slots c.args.row.now.row in
+    let es = shown c.args.slots.now.slots c.args.numbers.now in
     let h = c.loop-size.invariant in
     let half = c.loop-size.size / 2 in
     let at = c.loop-size.low + half - 1 in
     let more : 1 < c.loop-size.size = c.loop-size-test.true in
-    let within : at < length c.args.row.now.row = omega (arith, h.within, more) in
+    let within : at < length c.args.numbers.now = omega (arith, h.within, more) in
     let long = length_is _ _ c.requires in
     let e = entry_there _ _ c.requires at within in
-    let is = ap (λ p. is_gt (place_cmp c.args.place p)) (place_there _ _ c.requires at _ e within c.place_at.ensures) in
+    let is = ap (λ p. is_gt (place_cmp c.args.place p)) (place_there _ _ c.requires at _ e within c.place_of.ensures) in
     elim c.if-is_before.branch [
       | then-is_before w ↦
           let past : at < before place_cmp c.args.place es = passes_gt place_cmp places_total es at e c.args.place (rw c.requires.sorted tt) (omega (arith, within, long)) (is ∙ sym c.is_before.ensures ∙ w.if-is_before.true) in
@@ -51,27 +51,27 @@ loop-size-preserved c =
 
 pub returns-then-is_before-2-clause-count : goal.returns-then-is_before-2-clause-count
 returns-then-is_before-2-clause-count c =
-    let es = shown c.args.slots.now.slots c.args.row.now.row in
+    let es = shown c.args.slots.now.slots c.args.numbers.now in
     let h = c.loop-size.invariant in
     let at = c.loop-size.low in
-    let within : at < length c.args.row.now.row = omega (arith, h.within, c.if-size-gt0.true) in
+    let within : at < length c.args.numbers.now = omega (arith, h.within, c.if-size-gt0.true) in
     let long = length_is _ _ c.requires in
     let e = entry_there _ _ c.requires at within in
-    let is = ap (λ p. is_gt (place_cmp c.args.place p)) (place_there _ _ c.requires at _ e within c.place_at-then-size-gt0.ensures) in
+    let is = ap (λ p. is_gt (place_cmp c.args.place p)) (place_there _ _ c.requires at _ e within c.place_of-then-size-gt0.ensures) in
     let past : at < before place_cmp c.args.place es = passes_gt place_cmp places_total es at e c.args.place (rw c.requires.sorted tt) (omega (arith, within, long)) (is ∙ sym c.is_before-then-size-gt0.ensures ∙ c.if-is_before-2.true) in
     omega (arith, past, h.high, c.loop-size-test.false)
 
 pub returns-else-size-gt0-clause-count : goal.returns-else-size-gt0-clause-count
 returns-else-size-gt0-clause-count c =
-    let es = shown c.args.slots.now.slots c.args.row.now.row in
+    let es = shown c.args.slots.now.slots c.args.numbers.now in
     let h = c.loop-size.invariant in
     let at = c.loop-size.low in
     elim c.else-size-gt0.branch [
       | else-size-gt0-via-then-size-gt0+else-is_before-2 w ↦
-          let within : at < length c.args.row.now.row = omega (arith, h.within, w.if-size-gt0.true) in
+          let within : at < length c.args.numbers.now = omega (arith, h.within, w.if-size-gt0.true) in
           let long = length_is _ _ c.requires in
           let e = entry_there _ _ c.requires at within in
-          let is = ap (λ p. is_gt (place_cmp c.args.place p)) (place_there _ _ c.requires at _ e within w.place_at-then-size-gt0.ensures) in
+          let is = ap (λ p. is_gt (place_cmp c.args.place p)) (place_there _ _ c.requires at _ e within w.place_of-then-size-gt0.ensures) in
           let stop : before place_cmp c.args.place es ≤ at = stops place_cmp es at e c.args.place (omega (arith, within, long)) (is ∙ sym w.is_before-then-size-gt0.ensures ∙ w.if-is_before-2.false) in
           omega (arith, stop, h.low)
       | else-size-gt0-via-else-size-gt0 w ↦ omega (arith, h.low, h.high, w.if-size-gt0.false)

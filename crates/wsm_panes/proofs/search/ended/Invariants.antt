@@ -1,7 +1,7 @@
 use Rattle.std.proofs.Common.{◌≤◌, ◌-◌, length}
 use Rattle.wsm_panes.specs.Stored.{shown}
 use Rattle.wsm_panes.proofs.Ended.{ended}
-use Rattle.wsm_panes.proofs.list.ended.Given as goal
+use Rattle.wsm_panes.proofs.search.ended.Given as goal
 
 -- the entries below `low` end by the time, and those from `high` on past it
 abbrev pub invariant-loop-low : goal.invariant-loop-low
