@@ -10,8 +10,7 @@ ghost use Rattle.wsm_check.specs.Sizes.{counted, ending_need, ending_size, firin
 use crate::judging::want;
 use crate::parts::{Folding, Parts};
 use crate::refusal::{CheckFault, CheckRefusal, CodeLimit, Part};
-use crate::sizes::{need, size};
-use crate::term::Term;
+use crate::term::{Term, need, size};
 use wsm_record::limits::{MAX_PANES, MAX_SECTION, MAX_STACK};
 use wsm_windows::live_bound;
 

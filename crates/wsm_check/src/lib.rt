@@ -31,8 +31,7 @@ pub use checked::Checked;
 pub use checks::check;
 pub use parts::{Folding, Parts};
 pub use refusal::{CheckFault, CheckRefusal, CodeLimit, Part};
-pub use sizes::size;
-pub use term::Term;
+pub use term::{Term, size};
 pub use tested::field_test;
 pub use types::Around;
 
@@ -47,7 +46,6 @@ mod names;
 mod parts;
 mod refusal;
 mod resolve;
-mod sizes;
 mod term;
 mod tested;
 mod types;
