@@ -9,7 +9,7 @@ ghost use Rattle.wsm_machine.specs.InRange.{is_word, is_number_in as is_number_i
 
 use wsm_interval::Interval;
 use wsm_program::{Program, SectionId};
-use wsm_record::{DeclaredField, FieldType, Kind, Value};
+use wsm_record::{CellType, DeclaredField, FieldType, Kind, Value};
 use wsm_rules::Verified;
 
 /// What a section may read. WHERE and UPDATE read the key and the values of a record; FIRE reads
@@ -143,8 +143,9 @@ fn is_number_in(range: Option<Interval>, value: Value) -> bool
 fn is_of_kind(kind: Kind, value: Value) -> bool
     ensures { result ≡ is_of_kind_of kind value }
 {
-    match kind {
-        Kind::Sum | Kind::Min | Kind::Max => matches!(value, Value::Int(_)),
-        Kind::Any | Kind::All => matches!(value, Value::Bool(_)),
+    if kind.ty() == CellType::Int {
+        matches!(value, Value::Int(_))
+    } else {
+        matches!(value, Value::Bool(_))
     }
 }
