@@ -210,7 +210,7 @@ decode bytes = do
 
 -- the settings as the code holds them
 abbrev pub settings_seen : Held → Settings
-settings_seen s = record { shape = s.shape; from_window = s.from_window; mode = s.mode; early = s.early; late = s.late; form = s.form; sources = s.sources }
+settings_seen s = record { shape = s.shape; from_window = s.counting.from_window; mode = s.mode; early = s.early; late = s.late; form = s.form; sources = s.sources }
 
 abbrev pub back_seen : Back → List Kind × (List CellType × Costs)
 back_seen b = (b.kinds.items, (b.columns.items, b.budget))

@@ -21,12 +21,27 @@ pub(crate) struct Times {
     pub(crate) records: i64,
 }
 
+/// What a clock says beside its times.
+#[derive(Clone, Copy)]
+pub(crate) struct Counting {
+    /// Whether lateness counts from the ends of windows.
+    pub(crate) from_window: bool,
+}
+
+impl Counting {
+    /// That of a version that says no more than from where lateness counts.
+    pub(crate) fn of(from_window: bool) -> Counting
+        ensures { result ≡ record { from_window = from_window } }
+    {
+        Counting { from_window }
+    }
+}
+
 /// What a header has behind its times and in front of its accumulators.
 #[derive(Drop)]
 pub(crate) struct Settings {
     pub(crate) shape: Shape,
-    /// Whether lateness counts from the ends of windows.
-    pub(crate) from_window: bool,
+    pub(crate) counting: Counting,
     pub(crate) mode: Mode,
     pub(crate) early: i64,
     pub(crate) late: i64,
@@ -44,7 +59,7 @@ impl Settings {
             start: times.start,
             skew: times.skew,
             lateness: times.lateness,
-            from_window: self.from_window,
+            from_window: self.counting.from_window,
             records: times.records,
         }
     }

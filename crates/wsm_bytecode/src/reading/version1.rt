@@ -9,7 +9,7 @@ use crate::limits::MAX_SOURCES;
 use crate::reading::names::so_many_names;
 use crate::reading::numbers::{byte_of, byte_within};
 use crate::reading::settings::{
-    Settings, form_of, mode_of, triggers_of, windows_of as windows_of_tag,
+    Counting, Settings, form_of, mode_of, triggers_of, windows_of as windows_of_tag,
 };
 use crate::tags::{FORM_COUNT, SHAPE_COUNT, last_shape_tag};
 use std::alloc::Global;
@@ -27,7 +27,7 @@ pub(crate) fn settings_of(alloc: Global, bytes: &[u8]) -> Result<(Settings, &[u8
     let ((form, sources), rest) = output_of(alloc, rest, mode)?;
     let settings = Settings {
         shape,
-        from_window,
+        counting: Counting::of(from_window),
         mode,
         early,
         late,

@@ -10,7 +10,7 @@ ghost use Rattle.wsm_bytecode.specs.Reading.{Gives, settings_seen};
 use crate::reading::names::so_many_names;
 use crate::reading::numbers::{byte_of, byte_within, truth_of};
 use crate::reading::settings::{
-    Settings, form_of as form_of_tag, mode_of, triggers_of, windows_of as windows_of_tag,
+    Counting, Settings, form_of as form_of_tag, mode_of, triggers_of, windows_of as windows_of_tag,
 };
 use crate::tags::last_shape_tag;
 use std::alloc::Global;
@@ -37,7 +37,7 @@ pub(crate) fn settings_of(alloc: Global, bytes: &[u8]) -> Result<(Settings, &[u8
     let (shown, rest) = shown_of(rest)?;
     let settings = Settings {
         shape,
-        from_window,
+        counting: Counting::of(from_window),
         mode: shown.mode,
         early: shown.early,
         late: shown.late,

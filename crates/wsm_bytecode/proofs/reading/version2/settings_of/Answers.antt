@@ -10,4 +10,4 @@ unfolding settings_at
 returns c =
     let early : FitsSigned w64 c.in_ok-shown.shown.early = search rules in
     let late : FitsSigned w64 c.in_ok-shown.shown.late = search rules in
-    simp to_z-of_z (rw (c.in_ok-from_window.ensures, c.in_ok-sources.ensures, c.in_ok-shape.ensures, c.in_ok-shown.ensures) refl)
+    simp to_z-of_z (rw (c.in_ok-from_window.ensures, c.in_ok-sources.ensures, c.in_ok-shape.ensures, c.in_ok-shown.ensures, c.of.ensures) refl)
