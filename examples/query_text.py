@@ -1,6 +1,6 @@
 """Query texts, for the tools beside it and for trials/reference.py: reading, checks, and what an expression means.
 
-Nothing here is shared with the product. A text is read from the left, and the first fault is told with its line
+Nothing here is shared with the crates. A text is read from the left, and the first fault is told with its line
 and column; a query that was read is checked part by part. Parts and expressions keep their places in the text.
 """
 import re

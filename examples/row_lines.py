@@ -160,21 +160,36 @@ def time_of(cells):
     return int(figures or b"0") if len(figures) < 20 else 1 << 63
 
 
+def lock_of(path):
+    """The file beside another one that is locked by whoever writes that one. What it has stays, and no link is followed."""
+    flags = os.O_RDWR | os.O_CREAT | os.O_NOFOLLOW | os.O_CLOEXEC
+    return os.fdopen(os.open(f"{path}.lock", flags, 0o666), "r+")
+
+
 def write(lines):
-    """Hands lines on, at once."""
-    if lines:
-        try:
-            sys.stdout.buffer.write(b"\n".join(lines) + b"\n")
-            sys.stdout.buffer.flush()
-        except OSError:
-            raise Ended("write failed", BAD_WRITE) from None
+    """Hands lines on, at once. A pipe takes each write whole or not at all, so a kill leaves no part of a line there.
+
+    That holds for lines of up to PIPE_BUF bytes; longer ones go by themselves.
+    """
+    out, text, at = sys.stdout.buffer, b"".join(line + b"\n" for line in lines), 0
+    try:
+        while at < len(text):
+            end = text.rfind(b"\n", at, at + select.PIPE_BUF) + 1 or text.index(b"\n", at) + 1
+            out.write(text[at:end])
+            out.flush()
+            at = end
+    except OSError:
+        raise Ended("write failed", BAD_WRITE) from None
+
+
+def printable(text):
+    """A text in characters that a terminal shows."""
+    return "".join(one if one.isprintable() else one.encode("unicode_escape").decode() for one in text)
 
 
 def shown(line):
     """The beginning of a line, in characters that a terminal shows."""
-    text = line[:SHOWN].decode("utf-8", "backslashreplace")
-    text = "".join(one if one.isprintable() else one.encode("unicode_escape").decode() for one in text)
-    return text + ("..." if len(line) > SHOWN else "")
+    return printable(line[:SHOWN].decode("utf-8", "backslashreplace")) + ("..." if len(line) > SHOWN else "")
 
 
 class Tally:

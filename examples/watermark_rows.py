@@ -7,18 +7,22 @@ import sys
 sys.dont_write_bytecode = True
 
 from query_text import LATEST, value_of
-from row_lines import UNREAD, Ended, Tally, cleaned, time_of
+from row_lines import UNREAD, Ended, Tally, cleaned, time_of, was_stopped
 
 MOST_HELD = 1000  # rows that wait for two that agree
 MOST_BYTES = 1 << 24
 HEADER = [b"r", b"KEY", b"TIME"]  # how a first row with the names of the fields begins
 
 
+def last_end(query, time):
+    """The end of the last window of records up to a time."""
+    return time + query.size if query.shape == "SESSION" else time // query.period * query.period + query.size
+
+
 def end_of_windows(query, time):
     """The watermark that completes all windows of records up to a time."""
-    end = time + query.size if query.shape == "SESSION" else time // query.period * query.period + query.size
     has_final = query.late != 1  # a late record that was not shown at once is shown LATENESS past the end
-    return min(end + (query.lateness if has_final else 0), LATEST)
+    return min(last_end(query, time) + (query.lateness if has_final else 0), LATEST)
 
 
 class Watermarks:
@@ -219,7 +223,10 @@ class Watermarks:
     # ---- the end
 
     def end(self, is_last):
-        """The lines that end the rows, with the watermark that completes all windows where this is asked for."""
+        """The lines that end the rows, with the watermark that completes all windows where this is asked for.
+
+        Where it isn't, and the last windows have no watermark at their end, that is told.
+        """
         self.out = []
         self.release()
         if is_last and self.top is not None:
@@ -229,6 +236,8 @@ class Watermarks:
                 self.out.append(b"%s%d" % (self.head, mark))
         for tally in (self.unread, self.strange, self.late):
             tally.end()
+        if not was_stopped() and self.top is not None and self.written < min(last_end(self.query, self.top), LATEST):
+            print(f"{self.tool}: the last windows aren't complete, and have no pane on time: --last ends a file", file=sys.stderr, flush=True)
         return self.out
 
     # ---- what is kept of it

@@ -7,6 +7,7 @@
 BEGIN {
     FS = "\""
     MONTHS = "JanFebMarAprMayJunJulAugSepOctNovDec"
+    STAMPED = "^[^ ]+ [^ ]+ [^ ]+ \\[[0-9]{1,2}/[A-Z][a-z]{2}/[0-9]{4}(:[0-9]{2}){3} [-+][0-9]{4}\\] $"
     PLACES["docs"]; PLACES["api"]; PLACES["pricing"]; PLACES["static"]
     print "r,KEY,TIME,status,bytes"
     fflush()
@@ -24,7 +25,7 @@ function seconds(stamp, zone,    t, shift) {
         + (zone ~ /^-/ ? shift : -shift)
 }
 
-NF < 7 { print "unread," NR; fflush(); next }       # another form: wsm refuses it as BadTag
+NF < 7 || $1 !~ STAMPED { print "unread," NR; fflush(); next }      # another form: wsm refuses it as BadTag
 
 {
     split($1, head, " ")            # address, -, user, [21/Sep/2026:17:00:06, +0200]
