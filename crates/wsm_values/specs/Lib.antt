@@ -1,0 +1,11 @@
+pub mod Decimal
+pub mod DecimalRows
+pub mod Rfc3339
+pub mod Rfc3339Rows
+pub mod Zone
+pub mod Clock
+pub mod Local
+pub mod LocalRows
+pub mod Time
+pub mod OnLiterals
+pub mod TimeRows
