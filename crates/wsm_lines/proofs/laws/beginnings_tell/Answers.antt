@@ -1,0 +1,8 @@
+use Rattle.wsm_lines.proofs.KeptLemmas.{said_of-all-kept, said_of-kept}
+use Rattle.wsm_lines.proofs.laws.beginnings_tell.Goals as goal
+
+pub returns-clause-all : goal.returns-clause-all
+returns-clause-all c = said_of-all-kept
+
+pub returns-clause-line : goal.returns-clause-line
+returns-clause-line c = said_of-kept

@@ -1,0 +1,12 @@
+pub mod Entries
+pub mod Fault
+pub mod Text
+pub mod Scalar
+pub mod Heading
+pub mod Seen
+pub mod Event
+pub mod InPlace
+pub mod Said
+pub mod Reader
+pub mod JsonRows
+pub mod CellRows

@@ -1,0 +1,100 @@
+//! Lines taken apart, and what stands at their places.
+ghost use Rattle.std.specs.Prelude.{◌≡◌, option_map};
+ghost use Rattle.json.specs.Find.{get};
+ghost use Rattle.json.specs.Value.{value_view};
+ghost use Rattle.wsm_lines.specs.Scalar.{found_at, of_cell, of_found, of_json, scalar_at};
+ghost use Rattle.wsm_lines.specs.Seen.{scalar_seen, taken_seen};
+
+use crate::source::Place;
+use json::Value;
+use wsm_parts::{Access, Texts};
+use wsm_values::Word;
+
+/// What stands at a place.
+#[derive(Clone, Copy)]
+pub enum Scalar<'a> {
+    /// Nothing, also what JSON writes as null, and a cell without text.
+    Absent,
+    /// What has no text: an array or an object.
+    Odd,
+    /// A text.
+    Text(&'a [u8]),
+    /// What JSON itself writes as a number.
+    Number(&'a [u8]),
+}
+
+/// A line taken apart.
+#[derive(Drop)]
+pub enum Taken<'a> {
+    /// A value of JSON.
+    Json(Value<'a>),
+    /// The cells of an access log.
+    Access(Access<'a>),
+    /// The cells of the columns that a CSV source asks for.
+    Csv(&'a Texts),
+}
+
+// The member of that name.
+fn member<'v, 'a>(value: &'v Value<'a>, name: &Word) -> Option<&'v Value<'a>>
+    ensures { option_map (λ v. value_view v.now) result ≡ get name.now (value_view value.now) }
+{
+    value.get(name.as_str())
+}
+
+// The value that members lead to.
+fn found_at<'v, 'a>(value: &'v Value<'a>, names: &[Word]) -> Option<&'v Value<'a>>
+    ensures { option_map (λ v. value_view v.now) result ≡ found_at names.now (value_view value.now) }
+{
+    match names.split_first() {
+        None => Some(value),
+        Some((name, rest)) => found_at(member(value, name)?, rest),
+    }
+}
+
+// What a value of JSON is.
+fn of_json<'v>(value: &'v Value<'_>) -> Scalar<'v>
+    ensures { scalar_seen result ≡ of_json (value_view value.now) }
+{
+    match value {
+        Value::Null => Scalar::Absent,
+        Value::Bool(true) => Scalar::Text("true".as_bytes()),
+        Value::Bool(false) => Scalar::Text("false".as_bytes()),
+        Value::Number(text) => Scalar::Number(text.as_bytes()),
+        Value::String(text) => Scalar::Text(text.as_bytes()),
+        Value::Array(_) | Value::Object(_) => Scalar::Odd,
+    }
+}
+
+// What members lead to.
+fn json_at<'v>(value: &'v Value<'_>, names: &[Word]) -> Scalar<'v>
+    ensures { scalar_seen result ≡ of_found (found_at names.now (value_view value.now)) }
+{
+    match found_at(value, names) {
+        None => Scalar::Absent,
+        Some(found) => of_json(found),
+    }
+}
+
+// What a cell is.
+fn of_cell(cell: &[u8]) -> Scalar<'_>
+    ensures { scalar_seen result ≡ of_cell cell.now }
+{
+    match cell.split_first() {
+        None => Scalar::Absent,
+        Some(_) => Scalar::Text(cell),
+    }
+}
+
+/// What stands at a place of a line.
+pub(crate) fn scalar_at<'t>(taken: &'t Taken<'_>, place: &Place) -> Scalar<'t>
+    ensures { scalar_seen result ≡ scalar_at (taken_seen taken.now) place.now }
+{
+    match (taken, place) {
+        (Taken::Json(value), Place::Path(names)) => json_at(value, names.items()),
+        (Taken::Access(access), Place::Column(place)) => of_cell(access.at(*place)),
+        (Taken::Csv(texts), Place::Column(place)) => of_cell(texts.at(*place)),
+        (Taken::Json(_), Place::Column(_)) => Scalar::Absent,
+        (Taken::Access(_), Place::Path(_)) => Scalar::Absent,
+        (Taken::Csv(_), Place::Path(_)) => Scalar::Absent,
+    }
+}

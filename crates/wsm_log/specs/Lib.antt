@@ -1,0 +1,4 @@
+pub mod LinesOf
+pub mod LineRows
+pub mod LineBuffer
+pub mod Lines
