@@ -1,0 +1,11 @@
+pub mod Refusals
+pub mod Keys
+pub mod Reading
+pub mod FormatPart
+pub mod KeyPart
+pub mod TimePart
+pub mod FieldPart
+pub mod ClockPart
+pub mod Whole
+pub mod Told
+pub mod DescriptionRows

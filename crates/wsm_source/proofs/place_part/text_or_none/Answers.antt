@@ -1,0 +1,14 @@
+use Rattle.std.proofs.Common.{rules}
+use Rattle.std.proofs.lemmas.Str.{IsUtf8-from_is_utf8, is_utf8-from_IsUtf8}
+use Rattle.std.proofs.lemmas.Bool.{false_from_ne_true}
+use Rattle.wsm_source.proofs.place_part.text_or_none.Goals as goal
+
+pub returns-in_ok-new-in-Ok : goal.returns-in_ok-new-in-Ok
+returns-in_ok-new-in-Ok c =
+    let valid = is_utf8-from_IsUtf8 c.args.bytes.now c.in-Ok.ensures.cases.1 in
+    search (rules, valid)
+
+pub returns-in-Err : goal.returns-in-Err
+returns-in-Err c =
+    let broken = false_from_ne_true _ (λ valid. c.in-Err.ensures.cases.0 (IsUtf8-from_is_utf8 c.args.bytes.now valid)) in
+    search (rules, broken)

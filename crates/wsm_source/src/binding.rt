@@ -1,0 +1,105 @@
+//! A source, bound to a query.
+
+ghost use Rattle.std.specs.Prelude.{◌≡◌, ◌⊎◌, [], IfOk, IfErr, Ok, Err, map};
+ghost use Rattle.wsm_record.specs.Fields.{field_seen};
+ghost use Rattle.wsm_source.specs.Binding.{place_said, columns_of, format_with, bound};
+
+use crate::field_binding::{described_field, fields_of, require_declared};
+use crate::key_binding::{key_form, time_at};
+use crate::place_part::text_or_none;
+use std::alloc::Global;
+use wsm_description::{Description, FieldDescription, Format, Refusal, SourceFault, refuse};
+use wsm_lines::{CsvForm, Fields, Source, Words};
+use wsm_record::{DeclaredField, Schema};
+use wsm_values::{Word, Zone};
+
+// The place that is said of a declared field, or its name.
+fn place_said(
+    alloc: Global,
+    fields: &[FieldDescription],
+    declared: &DeclaredField,
+) -> Result<Word, Refusal>
+    ensures ok { IfOk result (λ at. place_said fields.now (field_seen declared.now) ≡ Ok at) }
+    ensures fault { IfErr result (λ r. (r ≡ Refusal.Memory) ⊎ (place_said fields.now (field_seen declared.now) ≡ Err r)) }
+{
+    let name = declared.name.as_bytes();
+    if let Some(field) = described_field(fields, name) {
+        return Ok(Word::new(alloc, field.at.as_str())?);
+    }
+    match text_or_none(alloc, name)? {
+        Some(name) => Ok(name),
+        None => Err(refuse(alloc, SourceFault::BadWord, "", "fields")),
+    }
+}
+
+// The columns that a CSV is asked for.
+fn columns_of(
+    alloc: Global,
+    description: &Description,
+    declared: &[DeclaredField],
+) -> Result<Words, Refusal>
+    ensures ok { IfOk result (λ names. columns_of description.now (map field_seen declared.now) ≡ Ok names) }
+    ensures fault { IfErr result (λ r. (r ≡ Refusal.Memory) ⊎ (columns_of description.now (map field_seen declared.now) ≡ Err r)) }
+{
+    let mut names = Vec::new(alloc);
+    names.push(Word::new(alloc, description.key.at.as_str())?)?;
+    names.push(Word::new(alloc, description.time.at.as_str())?)?;
+    for field in declared {
+        names.push(place_said(alloc, description.fields.items(), field)?)?;
+    }
+    Ok(Words::new(names))
+}
+
+// The format, with the columns that a CSV is asked for.
+fn format_with(
+    alloc: Global,
+    description: &Description,
+    declared: &[DeclaredField],
+) -> Result<wsm_lines::Format, Refusal>
+    ensures ok { IfOk result (λ f. format_with description.now (map field_seen declared.now) ≡ Ok f) }
+    ensures fault { IfErr result (λ r. (r ≡ Refusal.Memory) ⊎ (format_with description.now (map field_seen declared.now) ≡ Err r)) }
+{
+    match description.format {
+        Format::Json => Ok(wsm_lines::Format::Json),
+        Format::Access => Ok(wsm_lines::Format::Access),
+        Format::Csv(separator) => {
+            let names = columns_of(alloc, description, declared)?;
+            Ok(wsm_lines::Format::Csv(CsvForm { separator, names }))
+        }
+    }
+}
+
+/// The source of lines that a description says, for a query of this schema, or the first fault. The zone
+/// is the one that the description names, `Zone::Utc` where it names none; the bytes are those of the
+/// file of names, none where it names none.
+///
+/// # Errors
+///
+/// The fault is that of the definition, and so is the key that it names. `SourceRefusal::of` has its
+/// place in the text.
+pub fn bind(
+    alloc: Global,
+    description: &Description,
+    schema: &Schema,
+    zone: Zone,
+    names: &[u8],
+) -> Result<Source, Refusal>
+    ensures ok { IfOk result (λ s. bound description.now schema.now zone names.now ≡ Ok s) }
+    ensures fault { IfErr result (λ r. (r ≡ Refusal.Memory) ⊎ (bound description.now schema.now zone names.now ≡ Err r)) }
+{
+    let format = description.format;
+    let declared = schema.fields();
+    let said = description.fields.items();
+    require_declared(alloc, declared, said)?;
+    let key = key_form(alloc, format, schema, names, &description.key)?;
+    let time = time_at(alloc, format, zone, &description.time)?;
+    let fields = fields_of(alloc, format, said, declared)?;
+    let format = format_with(alloc, description, declared)?;
+    Ok(Source {
+        format,
+        longest: description.longest as usize,
+        key,
+        time,
+        fields: Fields::new(fields),
+    })
+}
