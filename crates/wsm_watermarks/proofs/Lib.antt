@@ -1,0 +1,11 @@
+mod Tellers
+mod Agreed
+mod Boards
+mod Marks
+mod Tolerance
+mod Plain
+mod Served
+mod Tables
+mod KeptRows
+mod Letting
+mod InTime

@@ -1,0 +1,10 @@
+pub mod Agreement
+pub mod AgreementRows
+pub mod Clocks
+pub mod Table
+pub mod Watermarks
+pub mod Held
+pub mod HeldRows
+pub mod Laws
+pub mod Served
+pub mod ServedRows

@@ -1,0 +1,147 @@
+//! The watermark that follows the time that clocks agree on.
+
+ghost use Rattle.std.specs.Prelude.{◌≡◌, ◌+◌, ◌*◌, ◌/◌, ◌<◌, ◌≤◌, [], ◌∷◌, List, IfOk, length, max};
+ghost use Rattle.wsm_watermarks.specs.declared.stamp.Stamp.{Stamp as AnyStamp};
+ghost use Rattle.wsm_watermarks.specs.Agreement.{behind, raised_by};
+ghost use Rattle.wsm_watermarks.specs.Watermarks.{FitsMarks};
+
+use crate::clocks::{Clocks, MOST_AGREEING};
+use crate::rule::Rule;
+use crate::stamp::Stamp;
+use crate::table::{MOST_CLOCKS, MOST_STAMPS, Table};
+use std::alloc::{AllocError, Global};
+use std::marker::Model;
+
+/// The watermark after the stamps so far.
+///
+/// A stamp costs the same however many clocks there are, unless as many as have to agree tell a time
+/// that may raise the watermark, or did: then all clocks are looked at.
+#[derive(Drop)]
+pub struct Watermarks {
+    table: Table,
+    clocks: Clocks,
+    rule: Rule,
+    mark: u64,
+}
+
+impl Model for Watermarks {
+    ghost use Rattle.std.specs.Prelude.{◌≡◌, ◌<◌, ◌≤◌, ◌-◌, ◌+◌, ◌*◌, ◌/◌};
+    ghost use Rattle.wsm_watermarks.specs.Watermarks.{Marking};
+
+    ghost Value = { Marking };
+
+    ghost view = { λ a. record { table = a.table; rule = a.rule; mark = a.mark } };
+
+    ghost invariant = { λ a. (a.clocks.most ≡ a.rule.agree) × (0 < a.rule.agree) × (0 < a.rule.step)
+        × (a.table.since ≤ (a.table.heard - a.rule.forget))
+        × (a.table.need ≤ (a.mark / a.rule.step * a.rule.step + a.rule.step + a.rule.bound)) };
+}
+
+impl Watermarks {
+    /// The watermark before the first stamp, for so many clocks, numbered from 0. No later call takes
+    /// memory.
+    ///
+    /// # Errors
+    ///
+    /// Memory was refused.
+    pub fn open(alloc: Global, clocks: usize, rule: Rule) -> Result<Watermarks, AllocError>
+        requires clocks { clocks ≤ MOST_CLOCKS }
+        requires some { 0 < rule.agree }
+        requires few { rule.agree ≤ MOST_AGREEING }
+        requires step { 0 < rule.step }
+        ensures rule { IfOk result (λ marks. marks.rule ≡ rule) }
+        ensures clocks { IfOk result (λ marks. length marks.table.said ≡ clocks) }
+        ensures fits { IfOk result (λ marks. FitsMarks marks []) }
+    {
+        Ok(Watermarks {
+            table: Table::open(alloc, clocks, need_after(rule, rule.start))?,
+            clocks: Clocks::open(alloc, rule.agree)?,
+            rule,
+            mark: rule.start,
+        })
+    }
+
+    /// The watermark.
+    pub fn mark(&self) -> u64
+        ensures { result ≡ self.now.mark }
+    {
+        self.mark
+    }
+
+    /// How many clocks there are.
+    pub fn clocks(&self) -> usize
+        ensures { result ≡ length self.now.table.said }
+    {
+        self.table.clocks()
+    }
+
+    /// How many stamps have come.
+    pub fn heard(&self) -> u64
+        ensures { result ≡ self.now.table.heard }
+    {
+        self.table.heard()
+    }
+
+    /// Takes note of a watermark that is known without clocks: only a greater one is told behind it, as if
+    /// the watermark had begun there.
+    pub fn note(&mut self, mark: u64)
+        ensures rule { self.new.rule ≡ record self.old.rule { start = max self.old.rule.start mark } }
+        ensures clocks { length self.new.table.said ≡ length self.old.table.said }
+        ensures heard { self.new.table.heard ≡ self.old.table.heard }
+        ensures fits { (past : List AnyStamp) → FitsMarks self.old past → FitsMarks self.new past }
+    {
+        self.rule.start = self.rule.start.max(mark);
+        if self.mark < mark {
+            self.mark = mark;
+            let since = self.table.heard().saturating_sub(self.rule.forget);
+            self.table.count(since, need_after(self.rule, mark));
+        }
+    }
+
+    /// Takes note of a stamp, and answers the new watermark where it raises it.
+    pub fn tell(&mut self, stamp: Stamp) -> Option<u64>
+        requires clock { stamp.clock < length self.old.table.said }
+        requires room { self.old.table.heard < MOST_STAMPS }
+        ensures rule { self.new.rule ≡ self.old.rule }
+        ensures clocks { length self.new.table.said ≡ length self.old.table.said }
+        ensures heard { self.new.table.heard ≡ self.old.table.heard + 1 }
+        ensures fits { (past : List AnyStamp) → FitsMarks self.old past → FitsMarks self.new (stamp ∷ past) }
+        ensures raised { (past : List AnyStamp) → FitsMarks self.old past → result ≡ raised_by self.old.rule past stamp }
+    {
+        self.table.put(stamp);
+        if self.table.ahead() < self.rule.agree {
+            return None;
+        }
+        let since = self.table.heard().saturating_sub(self.rule.forget);
+        self.table.gather(since, &mut self.clocks);
+        let mark = mark_behind(self.rule, self.clocks.agreed());
+        self.table
+            .count(since, need_after(self.rule, self.mark.max(mark)));
+        if mark <= self.mark {
+            return None;
+        }
+        self.mark = mark;
+        Some(mark)
+    }
+}
+
+// The earliest agreed time that raises a watermark, or the last time that there is where that is earlier.
+fn need_after(rule: Rule, mark: u64) -> u64
+    requires { 0 < rule.step }
+    ensures { result ≤ mark / rule.step * rule.step + rule.step + rule.bound }
+{
+    (mark / rule.step * rule.step)
+        .saturating_add(rule.step)
+        .saturating_add(rule.bound)
+}
+
+// The watermark that follows a time that is agreed on, and 0 where there is none.
+pub(crate) fn mark_behind(rule: Rule, agreed: Option<u64>) -> u64
+    requires { 0 < rule.step }
+    ensures { result ≡ behind rule agreed }
+{
+    match agreed {
+        None => 0,
+        Some(time) => time.saturating_sub(rule.bound) / rule.step * rule.step,
+    }
+}
