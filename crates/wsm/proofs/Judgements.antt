@@ -12,7 +12,10 @@ use Rattle.wsm_program.specs.declared.refusal.DecodeRefusal.TheVariants as bytes
 use Rattle.wsm_program.specs.Program.{Program}
 use Rattle.wsm_bytecode.specs.Reading.{Fails, decode}
 use Rattle.wsm.specs.Ends.{end_of_text, end_of_check, end_of_bytes}
-use Rattle.wsm.specs.Judged.{unless_refused, checked, text_judged, read_or_refused, bytes_judged, EndsBy}
+use Rattle.wsm.specs.declared.end.InputRefusal.{InputRefusal}
+use Rattle.wsm.specs.declared.end.End.{End}
+use Rattle.wsm.specs.declared.end.End.TheVariants as ends
+use Rattle.wsm.specs.Judged.{unless_refused, checked, compiled, text_judged, read_or_refused, bytes_judged, EndsBy}
 
 -- ---- a text
 
@@ -62,3 +65,11 @@ bytes_end spelling why h = by_fault (decode spelling) why h
 pub bytes_pass : (spelling : List ℕ) (p : Program) → decode spelling ≡ Ok p → bytes_judged spelling ≡ Ok p
 unfolding bytes_judged
 bytes_pass spelling p h = ap read_or_refused h
+
+-- what ends the reading of a query ends that of its program
+pub compiled_ends : (judged : Result Query InputRefusal) (e : End) → EndsBy judged e → EndsBy (compiled judged) e
+compiled_ends judged (ends.Refused why) h = ap compiled h
+compiled_ends judged (ends.Rejected why) h = absurd h
+compiled_ends judged ends.Memory h = tt
+compiled_ends judged ends.ReadFailed h = absurd h
+compiled_ends judged ends.WriteFailed h = absurd h

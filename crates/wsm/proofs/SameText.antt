@@ -36,7 +36,7 @@ same_last xs ys x y e =
 
 -- queries with the same lines for every input
 module _ (q m : Query) (declared : q.declared ≡ m.declared) (lines : (rows : List Row) → all_lines q rows ≡ all_lines m rows) where
-  so_far_same : (rows : List Row) → lines_so_far q rows ≡ lines_so_far m rows
+  pub so_far_same : (rows : List Row) → lines_so_far q rows ≡ lines_so_far m rows
   so_far_same rows = same_front (lines_so_far q rows) (lines_so_far m rows) (end_line q rows) (end_line m rows) (lines rows)
 
   rows_same : (cells : List Cells) → rows_of q cells ≡ rows_of m cells
@@ -50,10 +50,12 @@ module _ (q m : Query) (declared : q.declared ≡ m.declared) (lines : (rows : L
   unfolding input_text
   input_same cells = (λ i. lines_text (declared i) (lines (rows_of q cells) i)) ∙ ap (λ rows. lines_text m.declared (all_lines m rows)) (rows_same cells)
 
+  pub end_same_rows : (rows : List Row) → end_line q rows ≡ end_line m rows
+  end_same_rows rows = same_last (lines_so_far q rows) (lines_so_far m rows) (end_line q rows) (end_line m rows) (lines rows)
+
   end_same : (cells : List Cells) → end_line q (rows_of q cells) ≡ end_line m (rows_of m cells)
   end_same cells =
-      let rows = rows_of q cells in
-      same_last (lines_so_far q rows) (lines_so_far m rows) (end_line q rows) (end_line m rows) (lines rows) ∙ ap (end_line m) (rows_same cells)
+      end_same_rows (rows_of q cells) ∙ ap (end_line m) (rows_same cells)
 
   Completes-same : (known : Option (List ℕ)) (cells : List Cells) (old new : Option (List ℕ)) (totals : Totals) → Completes known q cells old new totals → Completes known m cells old new totals
   Completes-same known cells old new totals h = record { all = h.all; text = subst (Appends old new) (input_same cells) h.text; numbers = h.numbers ∙ end_same cells }
@@ -70,7 +72,7 @@ module _ (q m : Query) (declared : q.declared ≡ m.declared) (lines : (rows : L
   EndsEarly-same known cells old new WriteFailed (inr h) = inr (record { all = h.all; part = subst (TakesPart old new) (input_same cells) h.part })
 
 -- the program of a text's query has the lines that the text means
-text_lines : (text : List ℕ) (q : tree.Query) → IsAcceptedQuery text q → (rows : List Row) → all_lines (query_of (program_of q)) rows ≡ all_lines (meant q) rows
+pub text_lines : (text : List ℕ) (q : tree.Query) → IsAcceptedQuery text q → (rows : List Row) → all_lines (query_of (program_of q)) rows ≡ all_lines (meant q) rows
 text_lines text q a =
     let (read, checked) = judged_ok text q a.judged in
     same_lines q (record { checked = checked; spelt = parsed_is_spelt text q read; accepted = a.accepted })

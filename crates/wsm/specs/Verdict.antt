@@ -1,5 +1,5 @@
 -- What is written of a program that is judged.
-use Rattle.std.specs.Prelude.{◌≡◌, ℕ, Bool, List, [], ◌++◌, Option, Result, Ok, Err, is_ok, if◌then◌else◌, codes}
+use Rattle.std.specs.Prelude.{◌≡◌, ℕ, Bool, true, false, List, [], ◌++◌, Option, Result, Ok, Err, IfErr, IfOk, OnOk, is_ok, if◌then◌else◌, codes}
 use Rattle.std.specs.Fmt.{decimal}
 use Rattle.std.specs.Io.KnownBytes.{Appends, Keeps}
 use Rattle.wsm_program.specs.Program.{Program}
@@ -12,6 +12,7 @@ use Rattle.wsm_csv.specs.Device.{TakesPart}
 use Rattle.wsm.specs.declared.end.InputRefusal.{InputRefusal}
 use Rattle.wsm.specs.declared.end.End.{End}
 use Rattle.wsm.specs.declared.end.End.TheVariants.{Refused, Memory, WriteFailed}
+use Rattle.wsm.specs.Ends.{hides_memory}
 
 -- `accepted,RECORD,PANE,HELD` with the needed numbers, or `rejected,PART,PLACE,NAME`; a line feed
 abbrev pub verdict : Result Costs Rejection → List ℕ
@@ -38,3 +39,11 @@ StopsBy read explain old new (Refused why) = (read ≡ Err why) × Keeps old new
 StopsBy read explain old new Memory = Keeps old new
 StopsBy read explain old new WriteFailed = (p : Program) × (read ≡ Ok p) × TakesPart old new (report explain p)
 StopsBy read explain old new end = ⊥
+
+-- an input that was read so is judged: its program is reported; a refusal or want of memory stops it
+pub record Judges (read : Result Program InputRefusal) (explain : Bool) (old new : Option (List ℕ)) (is_flushed has_failed : Bool) (result : Result Bool End) : Type 0 where
+  pub reports : IfOk result (Reports read explain old new)
+  pub stops : IfErr result (StopsBy read explain old new)
+  pub flushed : OnOk result (is_flushed ≡ true)
+  pub write_failed : result ≡ Err WriteFailed → has_failed ≡ true
+  pub memory_apart : IfErr result (λ end. hides_memory end ≡ false)

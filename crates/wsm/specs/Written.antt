@@ -64,3 +64,11 @@ EndsEarly known q cells old new ends.WriteFailed = BreaksWithin known q cells ol
 pub record NeverBegins (why : Ending) (old new : Option (List ℕ)) (result : Result Totals Ending) : Type 0 where
   pub end : (result ≡ Err why) ⊎ (result ≡ Err ends.Memory)
   pub kept : Keeps old new
+
+-- all rows were read, and what the query means for them was written
+abbrev pub RowsWritten : Option (List ℕ) → Option (List ℕ) → Option (List ℕ) → Meant → Totals → Type 0
+RowsWritten known old new q totals = (cells : List Cells) × Completes known q cells old new totals
+
+-- a beginning of that was written
+abbrev pub RowsBroken : Option (List ℕ) → Option (List ℕ) → Option (List ℕ) → Meant → Ending → Type 0
+RowsBroken known old new q end = (cells : List Cells) × EndsEarly known q cells old new end

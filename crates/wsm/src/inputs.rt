@@ -10,9 +10,11 @@ ghost use Rattle.wsm_rules.specs.Costs.{needed};
 ghost use Rattle.wsm_rules.specs.Rules.{judge};
 ghost use Rattle.wsm_compiler.specs.Program.{program_of};
 ghost use Rattle.wsm.specs.Ends.{hides_memory};
-ghost use Rattle.wsm.specs.Judged.{text_judged, bytes_judged, EndsBy, RejectsBy};
+ghost use Rattle.wsm.specs.Inputs.{judged, EndsBefore, IsAccepted};
+ghost use Rattle.wsm.specs.Judged.{text_judged, bytes_judged, compiled, EndsBy, RejectsBy};
 
 use crate::end::End;
+use crate::input::Input;
 use std::alloc::Global;
 use wsm_bytecode::{Program, decode};
 use wsm_check::{CheckRefusal, Checked, check};
@@ -31,10 +33,37 @@ pub(crate) fn program_of_text(alloc: Global, text: &[u8]) -> Result<Program, End
     Ok(compile(alloc, checked)?)
 }
 
-/// The program of a query's text, with what it needs.
-pub(crate) fn costed_of_text(alloc: Global, text: &[u8]) -> Result<Costed, End>
-    ensures compiled { IfOk result (λ costed. (q : QueryTree) × (text_judged text.now ≡ Ok q) × (costed ≡ program_of q)) }
-    ensures refused { IfErr result (EndsBy (text_judged text.now)) }
+/// The accepted program of an input.
+///
+/// # Errors
+///
+/// [`End::Refused`] where the text is no query or a check refuses it, or the bytes spell no program,
+/// [`End::Rejected`] where the verifier refuses the program, and else [`End::Memory`].
+pub fn accepted_of(alloc: Global, input: Input<'_>) -> Result<Verified, End>
+    ensures accepted { IfOk result (λ verified. IsAccepted input.entry verified) }
+    ensures unaccepted { IfErr result (EndsBefore input.entry) }
+    ensures memory_apart { IfErr result (λ end. hides_memory end ≡ false) }
+{
+    let costed = costed_of(alloc, input)?;
+    verified(alloc, costed)
+}
+
+/// The program of an input, with what it needs.
+pub(crate) fn costed_of(alloc: Global, input: Input<'_>) -> Result<Costed, End>
+    ensures read { IfOk result (λ costed. judged input.entry ≡ Ok costed) }
+    ensures refused { IfErr result (EndsBy (judged input.entry)) }
+    ensures memory_apart { IfErr result (λ end. hides_memory end ≡ false) }
+{
+    match input {
+        Input::Text(text) => costed_of_text(alloc, text),
+        Input::Program(bytes) => costed_of_bytes(alloc, bytes),
+    }
+}
+
+// The program of a query's text, with what it needs.
+fn costed_of_text(alloc: Global, text: &[u8]) -> Result<Costed, End>
+    ensures compiled { IfOk result (λ costed. compiled (text_judged text.now) ≡ Ok costed) }
+    ensures refused { IfErr result (EndsBy (compiled (text_judged text.now))) }
     ensures memory_apart { IfErr result (λ end. hides_memory end ≡ false) }
 {
     let checked = checked_of_text(alloc, text)?;
@@ -72,8 +101,8 @@ pub(crate) fn program_of_bytes(alloc: Global, bytes: &[u8]) -> Result<Program, E
     Ok(decode(alloc, bytes)?)
 }
 
-/// The program that bytes spell, with what it needs.
-pub(crate) fn costed_of_bytes(alloc: Global, bytes: &[u8]) -> Result<Costed, End>
+// The program that bytes spell, with what it needs.
+fn costed_of_bytes(alloc: Global, bytes: &[u8]) -> Result<Costed, End>
     ensures read { IfOk result (λ costed. bytes_judged bytes.now ≡ Ok costed) }
     ensures refused { IfErr result (EndsBy (bytes_judged bytes.now)) }
     ensures memory_apart { IfErr result (λ end. hides_memory end ≡ false) }

@@ -3,27 +3,47 @@
 ghost use Rattle.std.specs.Prelude.{◌≡◌, ◌++◌, Ok, Err, false, true, is_ok, IfOk, IfErr, OnOk, string_bytes};
 ghost use Rattle.wsm_rules.specs.Rules.{judge as judge_of};
 ghost use Rattle.wsm.specs.Ends.{hides_memory};
-ghost use Rattle.wsm.specs.Judged.{bytes_judged, compiled, text_judged};
-ghost use Rattle.wsm.specs.Verdict.{listing, verdict, Reports, StopsBy};
+ghost use Rattle.wsm.specs.Inputs.{judged};
+ghost use Rattle.wsm.specs.Judged.{bytes_judged};
+ghost use Rattle.wsm.specs.Verdict.{listing, verdict, Judges, Reports, StopsBy};
 
 use crate::end::End;
-use crate::inputs::{costed_of_bytes, costed_of_text, verified};
+use crate::input::Input;
+use crate::inputs::{costed_of, verified};
 use std::alloc::{AllocError, Global};
 use wsm_bytecode::{Program, disassemble};
 use wsm_csv::{Device, write_out};
 use wsm_rules::Verified;
 use wsm_verifier::Costed;
 
-/// Judges the program of some bytes, and answers whether it is accepted. A line is written:
+/// Judges the program of an input, and answers whether it is accepted. A line is written:
 /// `accepted,RECORD,PANE,HELD` with the numbers that the program needs, or
 /// `rejected,PART,PLACE,NAME` with its first fault, PART being `where`, `update`, `fire` or `budget`. To
 /// explain, its listing is written first.
 ///
 /// # Errors
 ///
-/// [`End::Refused`] where the bytes spell no program: then nothing is written. Nothing is written
-/// for want of memory either. [`End::WriteFailed`] comes only where the device has failed: it took a
-/// beginning of the text.
+/// [`End::Refused`] where the text is no query or a check refuses it, or the bytes spell no program: then
+/// nothing is written. Nothing is written for want of memory either. [`End::WriteFailed`] comes only where
+/// the device has failed: it took a beginning of the text.
+pub fn judge_input<D: Device>(
+    alloc: Global,
+    input: Input<'_>,
+    explain: bool,
+    out: &mut D,
+) -> Result<bool, End>
+    requires { D.has_failed out.old ≡ false }
+    ensures { Judges (judged input.entry) explain (D.taken out.old) (D.taken out.new) (D.is_flushed out.new) (D.has_failed out.new) result }
+{
+    let costed = costed_of(alloc, input)?;
+    write_report(alloc, costed, explain, out)
+}
+
+/// Judges the program that bytes spell, as [`judge_input`] does.
+///
+/// # Errors
+///
+/// As [`judge_input`].
 pub fn judge<D: Device>(
     alloc: Global,
     program: &[u8],
@@ -31,37 +51,9 @@ pub fn judge<D: Device>(
     out: &mut D,
 ) -> Result<bool, End>
     requires { D.has_failed out.old ≡ false }
-    ensures reports { IfOk result (Reports (bytes_judged program.now) explain (D.taken out.old) (D.taken out.new)) }
-    ensures flushed { OnOk result (D.is_flushed out.new ≡ true) }
-    ensures stops { IfErr result (StopsBy (bytes_judged program.now) explain (D.taken out.old) (D.taken out.new)) }
-    ensures write_failed { result ≡ Err End.WriteFailed → D.has_failed out.new ≡ true }
-    ensures memory_apart { IfErr result (λ end. hides_memory end ≡ false) }
+    ensures { Judges (bytes_judged program.now) explain (D.taken out.old) (D.taken out.new) (D.is_flushed out.new) (D.has_failed out.new) result }
 {
-    let costed = costed_of_bytes(alloc, program)?;
-    write_report(alloc, costed, explain, out)
-}
-
-/// Judges the program of a query's text, as [`judge`] does the one that bytes spell.
-///
-/// # Errors
-///
-/// [`End::Refused`] where the text is no query, or a check refuses it: then nothing is written. Else as
-/// [`judge`].
-pub fn judge_query<D: Device>(
-    alloc: Global,
-    text: &[u8],
-    explain: bool,
-    out: &mut D,
-) -> Result<bool, End>
-    requires { D.has_failed out.old ≡ false }
-    ensures reports { IfOk result (Reports (compiled (text_judged text.now)) explain (D.taken out.old) (D.taken out.new)) }
-    ensures flushed { OnOk result (D.is_flushed out.new ≡ true) }
-    ensures stops { IfErr result (StopsBy (compiled (text_judged text.now)) explain (D.taken out.old) (D.taken out.new)) }
-    ensures write_failed { result ≡ Err End.WriteFailed → D.has_failed out.new ≡ true }
-    ensures memory_apart { IfErr result (λ end. hides_memory end ≡ false) }
-{
-    let costed = costed_of_text(alloc, text)?;
-    write_report(alloc, costed, explain, out)
+    judge_input(alloc, Input::Program(program), explain, out)
 }
 
 // Writes what is said of a program, and answers whether it is accepted.

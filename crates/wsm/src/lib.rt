@@ -2,8 +2,9 @@
 //!
 //! [`run_query`] reads and checks the text of a query, compiles it, has the program verified, takes
 //! the turn of each row of a reader, and gives a device the lines of each turn and a last one.
-//! [`run_program`] does so from the bytes of a program. [`run_query_over`] and [`run_program_over`] take
-//! [`Rows`] that stay with the caller, and say what ended them. A whole program:
+//! [`run_program`] does so from the bytes of a program. [`run_input`] takes either, an [`Input`], and
+//! [`Rows`] that stay with the caller, and says what ended them; [`accepted_of`] and [`run_log`] run one
+//! over the lines of a log. A whole program:
 //!
 //! ```rust
 //! use wsm::{End, Fault, Guarded, InputRefusal, Position, compile_text, run_program, run_query};
@@ -52,17 +53,19 @@
 //! nothing is written.
 //!
 //! [`compile_text`] gives the bytes of a query's program, [`migrate`] those of a program in the version
-//! that is written; [`judge`] writes what the verifier says of a program, and [`judge_query`] of that of
-//! a query. `inputs` goes from texts
-//! and bytes to verified programs, `turns` keeps what the rows so far come to, and `run` goes from the
-//! reader to the device. [`command_of`] reads the words of the program's command.
+//! that is written; [`judge`] writes what the verifier says of a program, and [`judge_input`] of that of
+//! a query too. `inputs` goes from texts and bytes to verified programs, `turns` keeps what the rows so far
+//! come to, and `run` goes from the reader to the device. [`command_of`] reads the words of the program's command.
 #![tactic(auto)]
 
 pub use compile::compile_text;
 pub use end::{End, InputRefusal, REJECTED_STATUS, status_of};
-pub use judging::{judge, judge_query};
+pub use input::Input;
+pub use inputs::accepted_of;
+pub use judging::{judge, judge_input};
+pub use logs::run_log;
 pub use migrating::migrate;
-pub use run::{run_program, run_program_over, run_query, run_query_over};
+pub use run::{run_input, run_program, run_query};
 pub use wsm_check::{CheckFault, CodeLimit, Part};
 pub use wsm_csv::{Device, DeviceFault, Guarded, Rows, write_out};
 pub use wsm_deal::{Ahead, Part as DealtPart, Shares, SharesRefusal, deal};
@@ -74,8 +77,10 @@ pub use wsm_words::{Job, WordsRefusal, command_of};
 
 mod compile;
 mod end;
+mod input;
 mod inputs;
 mod judging;
+mod logs;
 mod migrating;
 mod run;
 mod turns;

@@ -1,40 +1,30 @@
-//! Running queries and programs over rows.
+//! Runs over rows.
 
-ghost use Rattle.std.specs.Prelude.{◌≡◌, ◌≢◌, ℕ, List, [], Option, Ok, Err, true, false, IfErr, IfOk, OnOk, is_ok};
+ghost use Rattle.std.specs.Prelude.{◌≡◌, ◌≢◌, ℕ, List, [], Option, Err, true, false, IfErr, IfOk, OnOk};
 ghost use Rattle.wsm_program.specs.Program.{Program as Value};
-ghost use Rattle.wsm_rules.specs.Rules.{judge};
-ghost use Rattle.wsm_query.specs.Tree.{Query};
-ghost use Rattle.wsm_compiler.specs.Program.{program_of};
 ghost use Rattle.wsm_csv.specs.Records.{AreAll};
 ghost use Rattle.wsm_csv.specs.Rows.{Follows, error_of, read_end};
 ghost use Rattle.wsm_machine.specs.Meaning.{query_of};
-ghost use Rattle.wsm_compiler.specs.Means.{meant};
-ghost use Rattle.wsm.specs.Begun.{IsAcceptedProgram, IsAcceptedQuery};
 ghost use Rattle.wsm.specs.Ends.{hides_memory};
-ghost use Rattle.wsm.specs.Judged.{bytes_judged, text_judged};
-ghost use Rattle.wsm.specs.Written.{Cells, Completes, EndsEarly, NeverBegins};
+ghost use Rattle.wsm.specs.Inputs.{EndsAs};
+ghost use Rattle.wsm.specs.Written.{Cells, Completes, EndsEarly, RowsBroken, RowsWritten};
 ghost use Rattle.wsm.specs.Turns.{Fits, Stands};
 
-use crate::end::{End, InputRefusal};
-use crate::inputs::{costed_of_bytes, costed_of_text, verified};
+use crate::end::End;
+use crate::input::Input;
+use crate::inputs::accepted_of;
 use crate::turns::Turns;
 use std::alloc::Global;
 use std::io::Read;
 use wsm_csv::{Device, ReadEnd, Rows};
 use wsm_engine::Totals;
-use wsm_rules::{Rejection, Verified};
-use wsm_verifier::Costed;
+use wsm_rules::Verified;
 
-/// Runs the query of a text over the rows of a reader. Each row is read and its turn taken, and the
-/// device is given the lines of the turn before the next row is asked for. At last it is given the
-/// end row, whose numbers are answered, and is flushed.
+/// Runs the query of a text over the rows of a reader, as [`run_input`] does.
 ///
 /// # Errors
 ///
-/// [`End::Refused`] where the text is no query or a check refuses it, and [`End::Rejected`] where the
-/// verifier refuses its program: then nothing is written. After [`End::Memory`] or
-/// [`End::ReadFailed`] the device took the lines of the first rows, those of each turn whole; after
-/// [`End::WriteFailed`] it took a beginning of the lines.
+/// As [`run_input`].
 pub fn run_query<R: Read + Drop, D: Device>(
     alloc: Global,
     text: &[u8],
@@ -42,53 +32,18 @@ pub fn run_query<R: Read + Drop, D: Device>(
     out: &mut D,
 ) -> Result<Totals, End>
     requires { D.has_failed out.old ≡ false }
-    // A text that is refused ends the run so, and nothing is written.
-    ensures refused { (why : InputRefusal) → text_judged text.now ≡ Err why → NeverBegins (End.Refused why) (D.taken out.old) (D.taken out.new) result }
-    // So does a query whose program is rejected.
-    ensures rejected { (q : Query) (why : Rejection) → text_judged text.now ≡ Ok q → judge (program_of q) ≡ Err why → NeverBegins (End.Rejected why) (D.taken out.old) (D.taken out.new) result }
-    // The run of any other ends well where it read all rows and wrote what the query means for them,
-    ensures completes { (q : Query) → IsAcceptedQuery text.now q → IfOk result (λ totals. (cells : List Cells) × Completes (R.remaining reader) (meant q) cells (D.taken out.old) (D.taken out.new) totals) }
-    ensures flushed { OnOk result (D.is_flushed out.new ≡ true) }
-    // and else for want of memory, of rows or of a device that works, with a beginning of this written.
-    ensures ends_early { (q : Query) → IsAcceptedQuery text.now q → IfErr result (λ end. (cells : List Cells) × EndsEarly (R.remaining reader) (meant q) cells (D.taken out.old) (D.taken out.new) end) }
-    ensures write_failed { result ≡ Err End.WriteFailed → D.has_failed out.new ≡ true }
-    ensures memory_apart { IfErr result (λ end. hides_memory end ≡ false) }
+    ensures { EndsAs (Input.Text text.entry) (RowsWritten (R.remaining reader) (D.taken out.old) (D.taken out.new)) (RowsBroken (R.remaining reader) (D.taken out.old) (D.taken out.new))
+        (D.taken out.old) (D.taken out.new) (D.is_flushed out.new) (D.has_failed out.new) result }
 {
     let mut rows = Rows::new(alloc, reader);
-    run_query_over(alloc, text, &mut rows, out)
+    run_input(alloc, Input::Text(text), &mut rows, out)
 }
 
-/// Runs the query of a text as [`run_query`] does, over rows of which none was read. They stay with the
-/// caller, whom [`Rows::error`] tells what `csv` said where it ended them.
+/// Runs the program that bytes spell over the rows of a reader, as [`run_input`] does.
 ///
 /// # Errors
 ///
-/// As [`run_query`]. [`End::ReadFailed`] comes only where that error is of a read.
-pub fn run_query_over<R: Read + Drop, D: Device>(
-    alloc: Global,
-    text: &[u8],
-    rows: &mut Rows<R>,
-    out: &mut D,
-) -> Result<Totals, End>
-    requires { D.has_failed out.old ≡ false }
-    ensures refused { (why : InputRefusal) → text_judged text.now ≡ Err why → NeverBegins (End.Refused why) (D.taken out.old) (D.taken out.new) result }
-    ensures rejected { (q : Query) (why : Rejection) → text_judged text.now ≡ Ok q → judge (program_of q) ≡ Err why → NeverBegins (End.Rejected why) (D.taken out.old) (D.taken out.new) result }
-    ensures completes { (known : Option (List ℕ)) (q : Query) → Follows R.remaining known [] rows.old → IsAcceptedQuery text.now q → IfOk result (λ totals. (cells : List Cells) × Completes known (meant q) cells (D.taken out.old) (D.taken out.new) totals) }
-    ensures flushed { OnOk result (D.is_flushed out.new ≡ true) }
-    ensures ends_early { (known : Option (List ℕ)) (q : Query) → Follows R.remaining known [] rows.old → IsAcceptedQuery text.now q → IfErr result (λ end. (cells : List Cells) × EndsEarly known (meant q) cells (D.taken out.old) (D.taken out.new) end) }
-    ensures read_failed { result ≡ Err End.ReadFailed → read_end (error_of rows.new) ≡ ReadEnd.Failed }
-    ensures write_failed { result ≡ Err End.WriteFailed → D.has_failed out.new ≡ true }
-    ensures memory_apart { IfErr result (λ end. hides_memory end ≡ false) }
-{
-    let costed = costed_of_text(alloc, text)?;
-    run_judged(alloc, costed, rows, out)
-}
-
-/// Runs the program that bytes spell over the rows of a reader, as [`run_query`] does.
-///
-/// # Errors
-///
-/// [`End::Refused`] where the bytes spell no program, and else as [`run_query`].
+/// As [`run_input`].
 pub fn run_program<R: Read + Drop, D: Device>(
     alloc: Global,
     program: &[u8],
@@ -96,64 +51,39 @@ pub fn run_program<R: Read + Drop, D: Device>(
     out: &mut D,
 ) -> Result<Totals, End>
     requires { D.has_failed out.old ≡ false }
-    // Bytes that are refused end the run so, and nothing is written.
-    ensures refused { (why : InputRefusal) → bytes_judged program.now ≡ Err why → NeverBegins (End.Refused why) (D.taken out.old) (D.taken out.new) result }
-    // So does a program that is rejected.
-    ensures rejected { (p : Value) (why : Rejection) → bytes_judged program.now ≡ Ok p → judge p ≡ Err why → NeverBegins (End.Rejected why) (D.taken out.old) (D.taken out.new) result }
-    // The run of any other ends well where it read all rows and wrote what the program means for them,
-    ensures completes { (p : Value) → IsAcceptedProgram program.now p → IfOk result (λ totals. (cells : List Cells) × Completes (R.remaining reader) (query_of p) cells (D.taken out.old) (D.taken out.new) totals) }
-    ensures flushed { OnOk result (D.is_flushed out.new ≡ true) }
-    // and else for want of memory, of rows or of a device that works, with a beginning of this written.
-    ensures ends_early { (p : Value) → IsAcceptedProgram program.now p → IfErr result (λ end. (cells : List Cells) × EndsEarly (R.remaining reader) (query_of p) cells (D.taken out.old) (D.taken out.new) end) }
-    ensures write_failed { result ≡ Err End.WriteFailed → D.has_failed out.new ≡ true }
-    ensures memory_apart { IfErr result (λ end. hides_memory end ≡ false) }
+    ensures { EndsAs (Input.Program program.entry) (RowsWritten (R.remaining reader) (D.taken out.old) (D.taken out.new)) (RowsBroken (R.remaining reader) (D.taken out.old) (D.taken out.new))
+        (D.taken out.old) (D.taken out.new) (D.is_flushed out.new) (D.has_failed out.new) result }
 {
     let mut rows = Rows::new(alloc, reader);
-    run_program_over(alloc, program, &mut rows, out)
+    run_input(alloc, Input::Program(program), &mut rows, out)
 }
 
-/// Runs the program that bytes spell as [`run_program`] does, over rows as [`run_query_over`] takes them.
+/// Runs a query or a program over rows of which none was read. Each row is read and its turn taken, and the
+/// device is given the lines of the turn before the next row is asked for. At last it is given the
+/// end row, whose numbers are answered, and is flushed. The rows stay with the caller, whom
+/// [`Rows::error`] tells what `csv` said where it ended them.
 ///
 /// # Errors
 ///
-/// As [`run_program`]. [`End::ReadFailed`] comes only where the error of the rows is of a read.
-pub fn run_program_over<R: Read + Drop, D: Device>(
+/// [`End::Refused`] where the text is no query or a check refuses it, or the bytes spell no program, and
+/// [`End::Rejected`] where the verifier refuses the program: then nothing is written. After [`End::Memory`] or
+/// [`End::ReadFailed`] the device took the lines of the first rows, those of each turn whole; after
+/// [`End::WriteFailed`] it took a beginning of the lines. [`End::ReadFailed`] comes only where the error of
+/// the rows is of a read.
+pub fn run_input<R: Read + Drop, D: Device>(
     alloc: Global,
-    program: &[u8],
+    input: Input<'_>,
     rows: &mut Rows<R>,
     out: &mut D,
 ) -> Result<Totals, End>
-    requires { D.has_failed out.old ≡ false }
-    ensures refused { (why : InputRefusal) → bytes_judged program.now ≡ Err why → NeverBegins (End.Refused why) (D.taken out.old) (D.taken out.new) result }
-    ensures rejected { (p : Value) (why : Rejection) → bytes_judged program.now ≡ Ok p → judge p ≡ Err why → NeverBegins (End.Rejected why) (D.taken out.old) (D.taken out.new) result }
-    ensures completes { (known : Option (List ℕ)) (p : Value) → Follows R.remaining known [] rows.old → IsAcceptedProgram program.now p → IfOk result (λ totals. (cells : List Cells) × Completes known (query_of p) cells (D.taken out.old) (D.taken out.new) totals) }
-    ensures flushed { OnOk result (D.is_flushed out.new ≡ true) }
-    ensures ends_early { (known : Option (List ℕ)) (p : Value) → Follows R.remaining known [] rows.old → IsAcceptedProgram program.now p → IfErr result (λ end. (cells : List Cells) × EndsEarly known (query_of p) cells (D.taken out.old) (D.taken out.new) end) }
+    requires works { D.has_failed out.old ≡ false }
+    requires fresh { (known : Option (List ℕ)) × Follows R.remaining known [] rows.old }
+    ensures ends { (known : Option (List ℕ)) → Follows R.remaining known [] rows.old →
+        EndsAs input.entry (RowsWritten known (D.taken out.old) (D.taken out.new)) (RowsBroken known (D.taken out.old) (D.taken out.new))
+        (D.taken out.old) (D.taken out.new) (D.is_flushed out.new) (D.has_failed out.new) result }
     ensures read_failed { result ≡ Err End.ReadFailed → read_end (error_of rows.new) ≡ ReadEnd.Failed }
-    ensures write_failed { result ≡ Err End.WriteFailed → D.has_failed out.new ≡ true }
-    ensures memory_apart { IfErr result (λ end. hides_memory end ≡ false) }
 {
-    let costed = costed_of_bytes(alloc, program)?;
-    run_judged(alloc, costed, rows, out)
-}
-
-// Runs a program over rows, if it is accepted.
-fn run_judged<R: Read + Drop, D: Device>(
-    alloc: Global,
-    costed: Costed,
-    rows: &mut Rows<R>,
-    out: &mut D,
-) -> Result<Totals, End>
-    requires { D.has_failed out.old ≡ false }
-    ensures rejected { (why : Rejection) → judge costed ≡ Err why → NeverBegins (End.Rejected why) (D.taken out.old) (D.taken out.new) result }
-    ensures completes { (known : Option (List ℕ)) → Follows R.remaining known [] rows.old → IfOk result (λ totals. (cells : List Cells) × Completes known (query_of costed) cells (D.taken out.old) (D.taken out.new) totals) }
-    ensures flushed { OnOk result (D.is_flushed out.new ≡ true) }
-    ensures ends_early { (known : Option (List ℕ)) → Follows R.remaining known [] rows.old → is_ok (judge costed) ≡ true → IfErr result (λ end. (cells : List Cells) × EndsEarly known (query_of costed) cells (D.taken out.old) (D.taken out.new) end) }
-    ensures read_failed { result ≡ Err End.ReadFailed → read_end (error_of rows.new) ≡ ReadEnd.Failed }
-    ensures write_failed { result ≡ Err End.WriteFailed → D.has_failed out.new ≡ true }
-    ensures memory_apart { IfErr result (λ end. hides_memory end ≡ false) }
-{
-    let verified = verified(alloc, costed)?;
+    let verified = accepted_of(alloc, input)?;
     run_verified(alloc, verified, rows, out)
 }
 
@@ -165,33 +95,16 @@ fn run_verified<R: Read + Drop, D: Device>(
     out: &mut D,
 ) -> Result<Totals, End>
     requires { D.has_failed out.old ≡ false }
-    ensures completes { (known : Option (List ℕ)) → Follows R.remaining known [] rows.old → IfOk result (λ totals. (cells : List Cells) × Completes known (query_of verified) cells (D.taken out.old) (D.taken out.new) totals) }
+    ensures completes { (known : Option (List ℕ)) → Follows R.remaining known [] rows.old → IfOk result (RowsWritten known (D.taken out.old) (D.taken out.new) (query_of verified)) }
+    ensures ends_early { (known : Option (List ℕ)) → Follows R.remaining known [] rows.old → IfErr result (RowsBroken known (D.taken out.old) (D.taken out.new) (query_of verified)) }
     ensures flushed { OnOk result (D.is_flushed out.new ≡ true) }
-    ensures ends_early { (known : Option (List ℕ)) → Follows R.remaining known [] rows.old → IfErr result (λ end. (cells : List Cells) × EndsEarly known (query_of verified) cells (D.taken out.old) (D.taken out.new) end) }
     ensures read_failed { result ≡ Err End.ReadFailed → read_end (error_of rows.new) ≡ ReadEnd.Failed }
     ensures write_failed { result ≡ Err End.WriteFailed → D.has_failed out.new ≡ true }
     ensures memory_apart { IfErr result (λ end. hides_memory end ≡ false) }
 {
     let mut turns = Turns::open(alloc, verified)?;
-    run_turns(&mut turns, rows, out)
-}
-
-// Takes the turns of all rows, from the first on, and ends.
-fn run_turns<R: Read + Drop, D: Device>(
-    turns: &mut Turns,
-    rows: &mut Rows<R>,
-    out: &mut D,
-) -> Result<Totals, End>
-    requires { D.has_failed out.old ≡ false }
-    ensures completes { (known : Option (List ℕ)) (p : Value) → Follows R.remaining known [] rows.old → Fits p turns.old [] → IfOk result (λ totals. (cells : List Cells) × Completes known (query_of p) cells (D.taken out.old) (D.taken out.new) totals) }
-    ensures flushed { OnOk result (D.is_flushed out.new ≡ true) }
-    ensures ends_early { (known : Option (List ℕ)) (p : Value) → Follows R.remaining known [] rows.old → Fits p turns.old [] → IfErr result (λ end. (cells : List Cells) × EndsEarly known (query_of p) cells (D.taken out.old) (D.taken out.new) end) }
-    ensures read_failed { result ≡ Err End.ReadFailed → read_end (error_of rows.new) ≡ ReadEnd.Failed }
-    ensures write_failed { result ≡ Err End.WriteFailed → D.has_failed out.new ≡ true }
-    ensures memory_apart { IfErr result (λ end. hides_memory end ≡ false) }
-{
-    take_rows(turns, rows, out)?;
-    finish(turns, out)
+    take_rows(&mut turns, rows, out)?;
+    finish(&mut turns, out)
 }
 
 // Takes the turn of each row, and gives the device its lines before the next row is asked for.

@@ -1,0 +1,25 @@
+use Rattle.std.proofs.Common.{[]}
+use Rattle.std.proofs.lemmas.Result.{err_from_is_err_and}
+use Rattle.wsm.specs.Written.{RowsBroken, RowsWritten}
+use Rattle.wsm.proofs.RunsBeforeRows.{begun, unbegun}
+use Rattle.wsm.proofs.SameText.{text_completes, text_ends_early}
+use Rattle.wsm.proofs.Texts.{AreFirst-none, Appends-none}
+use Rattle.wsm.proofs.run.run_input.Goals as goal
+
+pub returns-in_err-verified-clause-ends : goal.returns-in_err-verified-clause-ends
+returns-in_err-verified-clause-ends g c =
+    let e = err_from_is_err_and c.from_residual.result c.from_residual.ensures.1 in
+    let old = g.D.Device.taken c.args.out.now in
+    rw (e.1, e.2) (λ known start.
+    unbegun c.args.input (RowsWritten known old old) (RowsBroken known old old) old (g.D.Device.is_flushed c.args.out.now) (g.D.Device.has_failed c.args.out.now) c.in_err-verified.field-0.0
+    c.in_err-verified.ensures.unaccepted (λ m. ([], record { first = AreFirst-none known; text = Appends-none m old })) c.in_err-verified.ensures.memory_apart)
+
+pub returns-clause-ends : goal.returns-clause-ends
+returns-clause-ends g c = λ known start.
+    let old = g.D.Device.taken c.args.out.now in
+    let new = g.D.Device.taken c.run_verified.new.out in
+    begun c.args.input (RowsWritten known old new) (RowsBroken known old new)
+    (λ text q accepted totals h. text_completes text q accepted known old new totals h)
+    (λ text q accepted end h. text_ends_early text q accepted known old new end h)
+    c.in_ok-verified.verified c.in_ok-verified.ensures.accepted old new (g.D.Device.is_flushed c.run_verified.new.out) (g.D.Device.has_failed c.run_verified.new.out) c.run_verified.result
+    (c.run_verified.ensures.completes known start) (c.run_verified.ensures.ends_early known start) c.run_verified.ensures.flushed c.run_verified.ensures.write_failed c.run_verified.ensures.memory_apart

@@ -1,0 +1,5 @@
+pub mod Intake
+pub mod Clocks
+pub mod Turns
+pub mod Run
+pub mod Rows
