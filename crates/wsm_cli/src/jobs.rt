@@ -1,25 +1,54 @@
 //! What the jobs of the program do with files, standard input and standard output.
 
+ghost use Rattle.wsm_intake.specs.Clocks.{AreRules};
+
+use crate::sources::{Bound, source_for};
+use crate::stop::Stop;
 use std::fs::{self, File};
 use std::io::{self, ErrorKind, Read, Write};
 use std::rt::Files;
 use wsm::{
-    Ahead, DealtPart, Device, End, Guarded, Job, Rows, Shares, SharesRefusal, compile_text, deal,
-    judge, judge_query, migrate, run_program_over, run_query_over, write_out,
+    Ahead, DealtPart, Device, End, Guarded, Input as Judged, Job, Rows, Shares, SharesRefusal,
+    accepted_of, compile_text, deal, judge_input, migrate, run_input, run_log, write_out,
 };
+use wsm_intake::write_rows;
+use wsm_lines::Source;
+use wsm_rules::Verified;
 
 /// Does the job. It is false where a program was judged and rejected.
-pub fn done<R: Files + AllocGlobal + Input + Print>(rt: &R, job: &Job) -> Result<bool, End> {
+pub fn done<R: Files + AllocGlobal + Input + Print>(rt: &R, job: &Job) -> Result<bool, Stop> {
     match job {
         Job::Run {
             program,
+            from: Some(source),
             query,
             rows,
-        } => run(rt, *program, query, rows.as_ref()),
-        Job::Compile { query, out } => compile(rt, query, out),
-        Job::Migrate { program, out } => migrated(rt, program, out),
-        Job::Verify { query, program } => judged(rt, *query, program, false),
-        Job::Explain { query, program } => judged(rt, *query, program, true),
+        } => run_from(rt, *program, source, query, rows.as_ref()),
+        Job::Run {
+            program,
+            from: None,
+            query,
+            rows,
+        } => Ok(run(rt, *program, query, rows.as_ref())?),
+        Job::Rows {
+            program,
+            source,
+            query,
+            rows,
+        } => rows_from(rt, *program, source, query, rows.as_ref()),
+        Job::Compile { query, out } => Ok(compile(rt, query, out)?),
+        Job::Migrate { program, out } => Ok(migrated(rt, program, out)?),
+        Job::Verify {
+            query,
+            from: Some(source),
+            program,
+        } => judged_with(rt, *query, source, program),
+        Job::Verify {
+            query,
+            from: None,
+            program,
+        } => Ok(judged(rt, *query, program, false)?),
+        Job::Explain { query, program } => Ok(judged(rt, *query, program, true)?),
         Job::Deal {
             keys_of,
             keys,
@@ -29,9 +58,9 @@ pub fn done<R: Files + AllocGlobal + Input + Print>(rt: &R, job: &Job) -> Result
         } => {
             let shares = shares_of(rt, keys, parts)?;
             if *keys_of {
-                clause(rt, &shares, out)
+                Ok(clause(rt, &shares, out)?)
             } else {
-                dealt(rt, &shares, out, rows.as_ref())
+                Ok(dealt(rt, &shares, out, rows.as_ref())?)
             }
         }
     }
@@ -118,11 +147,88 @@ fn run_over<R: AllocGlobal + Print, I: Read + Drop>(
 ) -> Result<bool, End> {
     let mut rows = Rows::new(rt.alloc(), rows);
     let mut output = Guarded::new(io::writer(rt));
+    run_input(rt.alloc(), input_of(program, query), &mut rows, &mut output)?;
+    Ok(true)
+}
+
+// The bytes of a program, or the text of a query.
+fn input_of(program: bool, bytes: &[u8]) -> Judged<'_> {
     if program {
-        run_program_over(rt.alloc(), query, &mut rows, &mut output)?;
+        Judged::Program(bytes)
     } else {
-        run_query_over(rt.alloc(), query, &mut rows, &mut output)?;
+        Judged::Text(bytes)
     }
+}
+
+// Runs a query or a program over a log, whose lines are read by a source, or over standard input.
+fn run_from<R: Files + AllocGlobal + Input + Print>(
+    rt: &R,
+    program: bool,
+    source: &String,
+    query: &String,
+    log: Option<&String>,
+) -> Result<bool, Stop> {
+    let query = read(rt, query)?;
+    let verified = accepted_of(rt.alloc(), input_of(program, &query))?;
+    let bound = source_for(rt, source, &verified)?;
+    match log {
+        None => Ok(log_over(rt, verified, bound, rt.reader())?),
+        Some(log) => match File::open(rt, log.as_str()) {
+            Ok(log) => Ok(log_over(rt, verified, bound, log)?),
+            Err(error) => Err(Stop::End(end_of(&error, End::ReadFailed))),
+        },
+    }
+}
+
+fn log_over<R: AllocGlobal + Print, I: Read + Drop>(
+    rt: &R,
+    verified: Verified,
+    bound: Bound,
+    log: I,
+) -> Result<bool, End>
+    requires { AreRules bound.rule }
+{
+    let mut output = Guarded::new(io::writer(rt));
+    run_log(
+        rt.alloc(),
+        verified,
+        bound.source,
+        bound.rule,
+        log,
+        &mut output,
+    )?;
+    Ok(true)
+}
+
+// Writes the rows of a log's lines by a source.
+fn rows_from<R: Files + AllocGlobal + Input + Print>(
+    rt: &R,
+    program: bool,
+    source: &String,
+    query: &String,
+    log: Option<&String>,
+) -> Result<bool, Stop> {
+    let query = read(rt, query)?;
+    let verified = accepted_of(rt.alloc(), input_of(program, &query))?;
+    let bound = source_for(rt, source, &verified)?;
+    match log {
+        None => Ok(rows_over(rt, &verified, bound.source, rt.reader())?),
+        Some(log) => match File::open(rt, log.as_str()) {
+            Ok(log) => Ok(rows_over(rt, &verified, bound.source, log)?),
+            Err(error) => Err(Stop::End(end_of(&error, End::ReadFailed))),
+        },
+    }
+}
+
+fn rows_over<R: AllocGlobal + Print, I: Read + Drop>(
+    rt: &R,
+    verified: &Verified,
+    source: Source,
+    log: I,
+) -> Result<bool, End> {
+    let schema = &verified.program().header().schema;
+    let mut output = Guarded::new(io::writer(rt));
+    write_rows(rt.alloc(), schema, source, log, &mut output)?;
     Ok(true)
 }
 
@@ -164,23 +270,37 @@ fn judged<R: Files + AllocGlobal + Print>(
 ) -> Result<bool, End> {
     let judged = read(rt, program)?;
     let mut output = Guarded::new(io::writer(rt));
-    if query {
-        judge_query(rt.alloc(), &judged, explain, &mut output)
-    } else {
-        judge(rt.alloc(), &judged, explain, &mut output)
+    judge_input(rt.alloc(), input_of(!query, &judged), explain, &mut output)
+}
+
+// Writes the judgement of a program or of a query's, and refuses a source that doesn't fit one that is accepted.
+fn judged_with<R: Files + AllocGlobal + Print>(
+    rt: &R,
+    query: bool,
+    source: &String,
+    program: &String,
+) -> Result<bool, Stop> {
+    let bytes = read(rt, program)?;
+    match accepted_of(rt.alloc(), input_of(!query, &bytes)) {
+        Ok(verified) => {
+            source_for(rt, source, &verified)?;
+            Ok(judged(rt, query, program, false)?)
+        }
+        Err(End::Rejected(_)) => Ok(judged(rt, query, program, false)?),
+        Err(end) => Err(Stop::End(end)),
     }
 }
 
-// The bytes of a file.
-fn read<R: Files + AllocGlobal>(rt: &R, name: &String) -> Result<Vec<u8>, End> {
+/// The bytes of a file.
+pub fn read<R: Files + AllocGlobal>(rt: &R, name: &String) -> Result<Vec<u8>, End> {
     match fs::read(rt, name.as_str()) {
         Ok(bytes) => Ok(bytes),
         Err(error) => Err(end_of(&error, End::ReadFailed)),
     }
 }
 
-// How a job ends where a file can't be opened, read or made: as given, but for want of memory.
-fn end_of(error: &io::Error, end: End) -> End {
+/// How a job ends where a file can't be opened, read or made: as given, but for want of memory.
+pub fn end_of(error: &io::Error, end: End) -> End {
     match error.kind() {
         ErrorKind::OutOfMemory => End::Memory,
         _ => end,

@@ -6,16 +6,23 @@
 #![tactic(auto)]
 
 mod jobs;
+mod sources;
+mod stop;
 
 use crate::jobs::done;
+use crate::stop::Stop;
 use std::env;
 use std::io::{self, ErrorKind};
 use std::process::ExitCode;
 use std::rt::{Env, Files};
 use wsm::{End, Job, REJECTED_STATUS, WordsRefusal, command_of, status_of};
+use wsm_source::SourceRefusal;
 
 /// The words were refused.
 const REFUSED_WORDS: u8 = 2;
+
+/// A source was refused, as a query's text may be.
+const REFUSED_SOURCE: u8 = 3;
 
 fn main(rt: HostRuntime) -> ExitCode {
     match words_of(&rt) {
@@ -54,7 +61,19 @@ fn status<R: Files + AllocGlobal + Input + Print + Eprint>(rt: &R, job: &Job) ->
     match done(rt, job) {
         Ok(true) => ExitCode::SUCCESS,
         Ok(false) => ExitCode::from(REJECTED_STATUS),
-        Err(end) => ended(rt, end),
+        Err(Stop::End(end)) => ended(rt, end),
+        Err(Stop::Source(refusal)) => refused_source(rt, &refusal),
+    }
+}
+
+// Prints why a source is refused.
+fn refused_source<R: Eprint>(rt: &R, refusal: &SourceRefusal) -> ExitCode {
+    match refusal {
+        SourceRefusal::Memory => ended(rt, End::Memory),
+        SourceRefusal::Fault(_) => {
+            let _ = eprintln!(rt; "wsm: {refusal}");
+            ExitCode::from(REFUSED_SOURCE)
+        }
     }
 }
 

@@ -6,7 +6,7 @@ use std::io;
 use std::io::{Read, Write};
 use std::process::Abort;
 use std::test::Fail;
-use wsm::{End, Guarded, Rows, compile_text, run_program_over, run_query, run_query_over};
+use wsm::{End, Guarded, Input, Rows, compile_text, run_input, run_query};
 use wsm_given::{BASE, BASE_ROWS, BASE_TEXT, STREAM, STREAM_ROWS, STREAM_TEXT};
 
 fn failure() -> io::Error {
@@ -83,7 +83,7 @@ fn rows_tell_what_ended_them(rt: HostRuntime) -> Result<(), Fail> {
     let program = compile_text(rt.alloc(), BASE)?;
     let mut rows = Rows::new(rt.alloc(), BASE_ROWS);
     let mut out = Guarded::new(Vec::new(rt.alloc()));
-    run_program_over(rt.alloc(), &program, &mut rows, &mut out)?;
+    run_input(rt.alloc(), Input::Program(&program), &mut rows, &mut out)?;
     assert_eq!(rt; out.into_writer().as_slice(), BASE_TEXT);
     assert!(rt; rows.error().is_none());
 
@@ -93,7 +93,7 @@ fn rows_tell_what_ended_them(rt: HostRuntime) -> Result<(), Fail> {
     };
     let mut rows = Rows::new(rt.alloc(), reader);
     let mut out = Guarded::new(Vec::new(rt.alloc()));
-    let end = run_query_over(rt.alloc(), STREAM, &mut rows, &mut out);
+    let end = run_input(rt.alloc(), Input::Text(STREAM), &mut rows, &mut out);
     assert_eq!(rt; end, Err(End::ReadFailed));
     assert!(rt; rows.error().is_some());
     Ok(())

@@ -5,7 +5,7 @@ use Rattle.clap.specs.declared.builder.ArgAction.TheVariants.{SetTrue}
 use Rattle.clap.specs.declared.error.Error.{Error}
 use Rattle.clap.specs.declared.error.kind.ErrorKind.TheVariants.{OutOfMemory}
 use Rattle.wsm_words.specs.declared.words.Job.{Job}
-use Rattle.wsm_words.specs.declared.words.Job.TheVariants.{Run, Compile, Migrate, Verify, Explain, Deal}
+use Rattle.wsm_words.specs.declared.words.Job.TheVariants.{Run, Compile, Migrate, Verify, Explain, Deal, Rows}
 use Rattle.wsm_words.specs.declared.words.WordsRefusal.{WordsRefusal}
 use Rattle.wsm_words.specs.declared.words.WordsRefusal.TheVariants.{Words, Memory}
 
@@ -17,13 +17,17 @@ file_rule id = record (new_rule id) { value_names = 1; required = true }
 abbrev pub flag_rule : Text → Rule
 flag_rule name = record (new_rule name) { long = Some name; action = Some SetTrue }
 
+-- an option with one value, by its name
+abbrev pub option_rule : Text → Rule
+option_rule name = record (new_rule name) { long = Some name; value_names = 1 }
+
 -- [ROWS]
 abbrev pub rows_rule : Rule
 rows_rule = record (new_rule (codes "rows")) { value_names = 1 }
 
--- run [--program] QUERY [ROWS]
+-- run [--program] [--from SOURCE] QUERY [ROWS]
 abbrev pub run_app : App
-run_app = with_rule (with_rule (with_rule (new_app (codes "run")) (flag_rule (codes "program"))) (file_rule (codes "query"))) rows_rule
+run_app = with_rule (with_rule (with_rule (with_rule (new_app (codes "run")) (flag_rule (codes "program"))) (option_rule (codes "from"))) (file_rule (codes "query"))) rows_rule
 
 -- compile QUERY OUT
 abbrev pub compile_app : App
@@ -33,17 +37,13 @@ compile_app = with_rule (with_rule (new_app (codes "compile")) (file_rule (codes
 abbrev pub migrate_app : App
 migrate_app = with_rule (with_rule (new_app (codes "migrate")) (file_rule (codes "program"))) (file_rule (codes "out"))
 
--- NAME [--query] PROGRAM
-abbrev pub judging_app : Text → App
-judging_app name = with_rule (with_rule (new_app name) (flag_rule (codes "query"))) (file_rule (codes "program"))
-
--- verify [--query] PROGRAM
+-- verify [--query] [--from SOURCE] PROGRAM
 abbrev pub verify_app : App
-verify_app = judging_app (codes "verify")
+verify_app = with_rule (with_rule (with_rule (new_app (codes "verify")) (flag_rule (codes "query"))) (option_rule (codes "from"))) (file_rule (codes "program"))
 
 -- explain [--query] PROGRAM
 abbrev pub explain_app : App
-explain_app = judging_app (codes "explain")
+explain_app = with_rule (with_rule (new_app (codes "explain")) (flag_rule (codes "query"))) (file_rule (codes "program"))
 
 -- deal [--keys-of] KEYS PARTS
 abbrev pub dealing_app : App
@@ -52,6 +52,11 @@ dealing_app = with_rule (with_rule (with_rule (new_app (codes "deal")) (flag_rul
 -- deal [--keys-of] KEYS PARTS OUT [ROWS]
 abbrev pub deal_app : App
 deal_app = with_rule (with_rule dealing_app (file_rule (codes "out"))) rows_rule
+
+-- rows [--program] SOURCE QUERY [ROWS]
+abbrev pub rows_app : App
+rows_app =
+    with_rule (with_rule (with_rule (with_rule (new_app (codes "rows")) (flag_rule (codes "program"))) (file_rule (codes "source"))) (file_rule (codes "query"))) rows_rule
 
 -- the program's command, which wants a subcommand and tells its version
 abbrev pub required_app : App
@@ -69,8 +74,9 @@ writing_app = with_subcommand query_app migrate_app.top
 abbrev pub judging_apps : App
 judging_apps = with_subcommand (with_subcommand writing_app verify_app.top) explain_app.top
 
+-- with those that deal or write rows, too
 abbrev pub the_app : App
-the_app = with_subcommand judging_apps deal_app.top
+the_app = with_subcommand (with_subcommand judging_apps deal_app.top) rows_app.top
 
 -- what a flag's text says: one of these, or there is none
 abbrev pub SaysFlag : Option Text → Bool → Type 0
@@ -80,19 +86,36 @@ SaysFlag text flag = (text ≡ None → flag ≡ false) × (text ≡ Some (codes
 abbrev pub Names : {Z : Type 0} → List Row → Text → String Z → Type 0
 Names entries id file = first_of id entries ≡ Some (string_bytes file)
 
+-- the entry of an option is its value, and there is none where it is not given
+abbrev pub HasOption : {Z : Type 0} → List Row → Text → Option (String Z) → Type 0
+HasOption entries name value = option_map string_bytes value ≡ first_of name entries
+
 -- the file of the rows, if one is named: `-` is the standard input
 abbrev pub rows_named : Option Text → Option Text
 rows_named None = None
 rows_named (Some name) = if bytes_eq name (codes "-") then None else Some name
 
+-- the entry of the rows is the file of the rows, or of the log
+abbrev pub NamesRows : {Z : Type 0} → List Row → Option (String Z) → Type 0
+NamesRows entries rows = option_map string_bytes rows ≡ rows_named (first_of (codes "rows") entries)
+
 -- the job has what the entries of the command of its name have
 abbrev pub IsJob : Text → List Row → Job → Type 0
-IsJob name entries (Run program query rows) = (name ≡ codes "run") × SaysFlag (one_of (codes "program") entries) program × Names entries (codes "query") query × (option_map string_bytes rows ≡ rows_named (first_of (codes "rows") entries))
+IsJob name entries (Run program from query rows) =
+    (name ≡ codes "run") × SaysFlag (one_of (codes "program") entries) program
+    × HasOption entries (codes "from") from × Names entries (codes "query") query × NamesRows entries rows
 IsJob name entries (Compile query out) = (name ≡ codes "compile") × Names entries (codes "query") query × Names entries (codes "out") out
 IsJob name entries (Migrate program out) = (name ≡ codes "migrate") × Names entries (codes "program") program × Names entries (codes "out") out
-IsJob name entries (Verify query program) = (name ≡ codes "verify") × SaysFlag (one_of (codes "query") entries) query × Names entries (codes "program") program
+IsJob name entries (Verify query from program) =
+    (name ≡ codes "verify") × SaysFlag (one_of (codes "query") entries) query
+    × HasOption entries (codes "from") from × Names entries (codes "program") program
 IsJob name entries (Explain query program) = (name ≡ codes "explain") × SaysFlag (one_of (codes "query") entries) query × Names entries (codes "program") program
-IsJob name entries (Deal keys_of keys parts out rows) = (name ≡ codes "deal") × SaysFlag (one_of (codes "keys-of") entries) keys_of × Names entries (codes "keys") keys × Names entries (codes "parts") parts × Names entries (codes "out") out × (option_map string_bytes rows ≡ rows_named (first_of (codes "rows") entries))
+IsJob name entries (Deal keys_of keys parts out rows) =
+    (name ≡ codes "deal") × SaysFlag (one_of (codes "keys-of") entries) keys_of
+    × Names entries (codes "keys") keys × Names entries (codes "parts") parts × Names entries (codes "out") out × NamesRows entries rows
+IsJob name entries (Rows program source query rows) =
+    (name ≡ codes "rows") × SaysFlag (one_of (codes "program") entries) program
+    × Names entries (codes "source") source × Names entries (codes "query") query × NamesRows entries rows
 
 -- a job is that of the subcommand and its entries
 abbrev pub IsJobOf : Option (Text × List Row) → Job → Type 0

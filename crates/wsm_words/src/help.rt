@@ -30,17 +30,21 @@ Nothing fires at the end of the rows: end them with a watermark.
 Statuses:
   0  done, also after help and the version
   2  the words were refused
-  3  a query's text, a program's bytes or keys were refused
+  3  a query's text, a program's bytes, keys or a source's text were refused
   4  a program was rejected
   5  memory was refused
   6  a file couldn't be opened or read
   7  the output failed";
 
 /// What the command `run` does.
-pub const RUN: &str = "Runs a query or a program over rows, and writes to standard output.";
+pub const RUN: &str =
+    "Runs a query or a program over rows or over a log, and writes to standard output.";
 
 /// What the flag for a program says.
 pub const IS_PROGRAM: &str = "QUERY is a program that `wsm compile` wrote";
+
+/// What the option for a source says.
+pub const FROM: &str = "ROWS is a log, whose lines are read by the source of this file";
 
 /// What is run.
 pub const QUERY_OR_PROGRAM: &str = "The file of the query's text, or of the program";
@@ -57,7 +61,31 @@ pub const RUN_EXAMPLE: &str = "With the query of `wsm --help`,
 writes
 
   pane,on_time,a,0,60,2,10
-  end,3,2,0,0,1";
+  end,3,2,0,0,1
+
+With --from ROWS is a log. A source says where its lines have the key, the time and the fields, and
+how far the watermark stays behind the latest time:
+
+  echo 'format = \"json\"
+  [key]
+  at = \"customer\"
+  [time]
+  at = \"time\"
+  form = \"rfc3339\"
+  [clock]
+  bound = 60' > log.toml
+  echo '{\"customer\":\"a\",\"time\":\"1970-01-01T00:00:05Z\",\"n\":7}
+  {\"customer\":\"a\",\"time\":\"1970-01-01T00:00:59Z\",\"n\":3}
+  {\"customer\":\"b\",\"time\":\"1970-01-01T00:02:00Z\",\"n\":1}' > log.json
+  wsm run --from log.toml sums.wsm log.json
+
+writes
+
+  pane,on_time,a,0,60,2,10
+  end,3,3,0,0,1
+
+since the last line raises the watermark to 60, in front of its own record. What is refused is told
+by the number of its line.";
 
 /// What the command `compile` does.
 pub const COMPILE: &str = "Writes the program of a query to a file, without judging it.";
@@ -97,7 +125,11 @@ A program of version 1, which an earlier `wsm compile` wrote, becomes one of ver
 the same. One of version 2 is written as it is.";
 
 /// What the command `verify` does.
-pub const VERIFY: &str = "Tells whether a program is accepted, and what it may cost.";
+pub const VERIFY: &str =
+    "Tells whether a program is accepted, and what it may cost, and whether a source fits it.";
+
+/// What the option for a source that is judged says.
+pub const FITS: &str = "The file of a source, to tell whether it fits the query";
 
 /// What the program's file is.
 pub const PROGRAM: &str = "The file of the program";
@@ -120,7 +152,14 @@ writes
 
 and so does `wsm verify --query sums.wsm`, which makes no file. A record takes at most 5
 instructions and a pane 4, and 6 panes are held at most. Of a program that is not accepted the
-first fault is told, as `rejected,fire,2,MayDivideByZero`.";
+first fault is told, as `rejected,fire,2,MayDivideByZero`.
+
+With the source of `wsm run --help`,
+
+  wsm verify --query --from log.toml sums.wsm
+
+writes the same line, since the source and the query fit each other. Of a source that doesn't fit
+the first fault is told on standard error, and the status is 3.";
 
 /// What the command `explain` does.
 pub const EXPLAIN: &str = "Lists a program, and tells whether it is accepted.";
@@ -182,3 +221,34 @@ known key to part 0. The clause of a part's query is written by its number:
 writes
 
   KEYS c, d;";
+
+/// What the command `rows` does.
+pub const LOG_ROWS: &str =
+    "Writes the rows that a source reads of a log, one for each line, as `wsm run` takes them.";
+
+/// What the source's file is.
+pub const SOURCE: &str = "The file of the source by which the log's lines are read";
+
+/// What the log's file is.
+pub const LOG: &str = "The file of the log; standard input where it is left out or `-`";
+
+/// An example of the command `rows`.
+pub const LOG_ROWS_EXAMPLE: &str =
+    "With the query of `wsm --help`, the source and the log of `wsm run --help`,
+
+  wsm rows log.toml sums.wsm log.json
+
+writes
+
+  r,a,5,7
+  r,a,59,3
+  r,b,120,1
+
+A line is one row, always, so watermarks aren't among them. A key that isn't declared is an empty
+cell, and a line that gives no row is told by a word:
+
+  echo '{\"customer\":\"a\",\"n\":7}' | wsm rows log.toml sums.wsm
+
+writes
+
+  unread,NoTime";

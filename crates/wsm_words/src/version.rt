@@ -5,7 +5,7 @@ ghost use Rattle.std.specs.Prelude.{◌≡◌, ◌++◌, IfOk, codes, string_byt
 use std::alloc::{AllocError, Global};
 
 /// The version that the program goes by.
-pub const VERSION: &str = "1.1.0";
+pub const VERSION: &str = "1.2.0";
 
 /// The kit that it is proved with.
 pub const KIT: &str = "13f";

@@ -1,8 +1,8 @@
 //! The program's words.
 
 ghost use Rattle.std.specs.Prelude.{◌≡◌, true, false, IfOk, IfErr, codes, map, option_map, string_bytes};
-ghost use Rattle.clap.specs.Words.{app_of, first_of, new_app, fault_of, found_of, rows_of as entries_of, rule_of, subcommand_of, subcommand_rows_of, takes};
-ghost use Rattle.wsm_words.specs.Words.{the_app, query_app, required_app, run_app, compile_app, judging_app, judging_apps, verify_app, explain_app, migrate_app, writing_app, dealing_app, deal_app, file_rule, flag_rule, AnswersFaults, IsJob, IsJobOf, IsMemory, Names, rows_named};
+ghost use Rattle.clap.specs.Words.{app_of, first_of, one_of, new_app, fault_of, found_of, rows_of as entries_of, rule_of, subcommand_of, subcommand_rows_of, takes};
+ghost use Rattle.wsm_words.specs.Words.{the_app, query_app, required_app, run_app, compile_app, judging_apps, verify_app, explain_app, migrate_app, writing_app, dealing_app, deal_app, rows_app, file_rule, flag_rule, option_rule, rows_rule, AnswersFaults, HasOption, IsJob, IsJobOf, IsMemory, Names, NamesRows, SaysFlag, rows_named};
 
 use crate::help;
 use crate::version::version_text;
@@ -13,13 +13,15 @@ use std::alloc::{AllocError, Global};
 /// What the words ask for. Files are told by their names.
 #[derive(Debug, Drop)]
 pub enum Job {
-    /// To run a query, or a program, over rows.
+    /// To run a query, or a program, over rows, or over the lines of a log.
     Run {
         /// Whether the file has the bytes of a program, and not the text of a query.
         program: bool,
+        /// The file of the source by which the lines of a log are read; none where rows are run over.
+        from: Option<String>,
         /// The file of the query or the program.
         query: String,
-        /// The file of the rows; standard input where none is named, or `-`.
+        /// The file of the rows or of the log; standard input where none is named, or `-`.
         rows: Option<String>,
     },
     /// To write the program of a query.
@@ -36,10 +38,12 @@ pub enum Job {
         /// The file that is written.
         out: String,
     },
-    /// To tell whether a program, or that of a query, is accepted.
+    /// To tell whether a program, or that of a query, is accepted, and whether a source fits it.
     Verify {
         /// Whether the file has the text of a query, and not the bytes of a program.
         query: bool,
+        /// The file of the source that is judged too; none where the program alone is judged.
+        from: Option<String>,
         /// The file of the program or the query.
         program: String,
     },
@@ -61,6 +65,17 @@ pub enum Job {
         /// What the names of the parts' files begin with, or the number of the part whose keys are written.
         out: String,
         /// The file of the rows; standard input where none is named, or `-`.
+        rows: Option<String>,
+    },
+    /// To write the rows that a source reads of a log, as a run over it takes them.
+    Rows {
+        /// Whether the file has the bytes of a program, and not the text of a query.
+        program: bool,
+        /// The file of the source by which the log's lines are read.
+        source: String,
+        /// The file of the query or the program.
+        query: String,
+        /// The file of the log; standard input where none is named, or `-`.
         rows: Option<String>,
     },
 }
@@ -98,9 +113,11 @@ impl From<clap::Error> for WordsRefusal {
 }
 
 /// The job that the words ask for, the program's own name first among them. A subcommand is
-/// required: `run [--program] QUERY [ROWS]`, `compile QUERY OUT`, `migrate PROGRAM OUT`,
-/// `verify [--query] PROGRAM`, `explain [--query] PROGRAM` or `deal [--keys-of] KEYS PARTS OUT [ROWS]`. Words that `clap` takes are refused for
-/// want of memory alone. Others are refused by a fault that `clap` finds in them, or for want of memory.
+/// required: `run [--program] [--from SOURCE] QUERY [ROWS]`, `compile QUERY OUT`, `migrate PROGRAM OUT`,
+/// `verify [--query] [--from SOURCE] PROGRAM`, `explain [--query] PROGRAM`,
+/// `deal [--keys-of] KEYS PARTS OUT [ROWS]` or `rows [--program] SOURCE QUERY [LOG]`. Words that `clap`
+/// takes are refused for want of memory alone. Others are refused by a fault that `clap` finds in them,
+/// or for want of memory.
 pub fn command_of(alloc: Global, words: &[&str]) -> Result<Job, WordsRefusal>
     ensures job { IfOk result (IsJobOf (subcommand_of the_app (map (λ s. s.now) words.now))) }
     ensures refused { IfErr result (λ e. takes the_app (map (λ s. s.now) words.now) ≡ true → IsMemory e) }
@@ -115,7 +132,9 @@ pub fn command_of(alloc: Global, words: &[&str]) -> Result<Job, WordsRefusal>
 fn wsm_command<'a>(alloc: Global, version: &'a str) -> Result<Command<'a>, AllocError>
     ensures { IfOk result (λ c. app_of c ≡ the_app) }
 {
-    let wsm = judging_commands(alloc, version)?.subcommand(deal_command(alloc)?)?;
+    let wsm = judging_commands(alloc, version)?
+        .subcommand(deal_command(alloc)?)?
+        .subcommand(rows_command(alloc)?)?;
     Ok(wsm)
 }
 
@@ -157,15 +176,15 @@ fn required_command<'a>(alloc: Global, version: &'a str) -> Result<Command<'a>, 
         .bin_name("wsm")
 }
 
-// `run [--program] QUERY [ROWS]`
+// `run [--program] [--from SOURCE] QUERY [ROWS]`
 fn run_command<'a>(alloc: Global) -> Result<Command<'a>, AllocError>
     ensures { IfOk result (λ c. app_of c ≡ run_app) }
 {
-    let rows = Arg::new(alloc, "rows").value_name("ROWS").help(help::ROWS);
     let run = command(alloc, "run", help::RUN, help::RUN_EXAMPLE)
         .arg(flag(alloc, "program", help::IS_PROGRAM))?
+        .arg(option(alloc, "from", "SOURCE", help::FROM))?
         .arg(file(alloc, "query", "QUERY", help::QUERY_OR_PROGRAM))?
-        .arg(rows)?;
+        .arg(rows_file(alloc, "ROWS", help::ROWS))?;
     Ok(run)
 }
 
@@ -189,43 +208,34 @@ fn migrate_command<'a>(alloc: Global) -> Result<Command<'a>, AllocError>
     Ok(migrate)
 }
 
-// `verify [--query] PROGRAM`
+// `verify [--query] [--from SOURCE] PROGRAM`
 fn verify_command<'a>(alloc: Global) -> Result<Command<'a>, AllocError>
     ensures { IfOk result (λ c. app_of c ≡ verify_app) }
 {
-    judging_command(alloc, "verify", help::VERIFY, help::VERIFY_EXAMPLE)
+    let verify = command(alloc, "verify", help::VERIFY, help::VERIFY_EXAMPLE)
+        .arg(flag(alloc, "query", help::IS_QUERY))?
+        .arg(option(alloc, "from", "SOURCE", help::FITS))?
+        .arg(file(alloc, "program", "PROGRAM", help::PROGRAM_OR_QUERY))?;
+    Ok(verify)
 }
 
 // `explain [--query] PROGRAM`
 fn explain_command<'a>(alloc: Global) -> Result<Command<'a>, AllocError>
     ensures { IfOk result (λ c. app_of c ≡ explain_app) }
 {
-    judging_command(alloc, "explain", help::EXPLAIN, help::EXPLAIN_EXAMPLE)
-}
-
-// A command that judges a program, or that of a query.
-fn judging_command<'a>(
-    alloc: Global,
-    name: &'a str,
-    about: &'a str,
-    example: &'a str,
-) -> Result<Command<'a>, AllocError>
-    ensures { IfOk result (λ c. app_of c ≡ judging_app name.entry.now) }
-{
-    let judging = command(alloc, name, about, example)
+    let explain = command(alloc, "explain", help::EXPLAIN, help::EXPLAIN_EXAMPLE)
         .arg(flag(alloc, "query", help::IS_QUERY))?
         .arg(file(alloc, "program", "PROGRAM", help::PROGRAM_OR_QUERY))?;
-    Ok(judging)
+    Ok(explain)
 }
 
 // `deal [--keys-of] KEYS PARTS OUT [ROWS]`
 fn deal_command<'a>(alloc: Global) -> Result<Command<'a>, AllocError>
     ensures { IfOk result (λ c. app_of c ≡ deal_app) }
 {
-    let rows = Arg::new(alloc, "rows").value_name("ROWS").help(help::ROWS);
     let deal = dealing_command(alloc)?
         .arg(file(alloc, "out", "OUT", help::PARTS_OUT))?
-        .arg(rows)?;
+        .arg(rows_file(alloc, "ROWS", help::ROWS))?;
     Ok(deal)
 }
 
@@ -238,6 +248,18 @@ fn dealing_command<'a>(alloc: Global) -> Result<Command<'a>, AllocError>
         .arg(file(alloc, "keys", "KEYS", help::KEYS))?
         .arg(file(alloc, "parts", "PARTS", help::PARTS))?;
     Ok(deal)
+}
+
+// `rows [--program] SOURCE QUERY [LOG]`
+fn rows_command<'a>(alloc: Global) -> Result<Command<'a>, AllocError>
+    ensures { IfOk result (λ c. app_of c ≡ rows_app) }
+{
+    let rows = command(alloc, "rows", help::LOG_ROWS, help::LOG_ROWS_EXAMPLE)
+        .arg(flag(alloc, "program", help::IS_PROGRAM))?
+        .arg(file(alloc, "source", "SOURCE", help::SOURCE))?
+        .arg(file(alloc, "query", "QUERY", help::QUERY_OR_PROGRAM))?
+        .arg(rows_file(alloc, "LOG", help::LOG))?;
+    Ok(rows)
 }
 
 // A command with the texts of its help.
@@ -258,6 +280,17 @@ fn flag<'a>(alloc: Global, name: &'a str, help: &'a str) -> Arg<'a>
         .action(ArgAction::SetTrue)
 }
 
+// An option with one value, by the name that it has as a word.
+fn option<'a>(alloc: Global, name: &'a str, value: &'a str, help: &'a str) -> Arg<'a>
+    ensures rule { rule_of result ≡ option_rule name.entry.now }
+    ensures local { result.global ≡ false }
+{
+    Arg::new(alloc, name)
+        .value_name(value)
+        .help(help)
+        .long(name)
+}
+
 // A file that has to be named.
 fn file<'a>(alloc: Global, id: &'a str, name: &'a str, help: &'a str) -> Arg<'a>
     ensures rule { rule_of result ≡ file_rule id.entry.now }
@@ -267,6 +300,14 @@ fn file<'a>(alloc: Global, id: &'a str, name: &'a str, help: &'a str) -> Arg<'a>
         .value_name(name)
         .help(help)
         .required(true)
+}
+
+// The file of the rows or of the log, which may be named last.
+fn rows_file<'a>(alloc: Global, name: &'a str, help: &'a str) -> Arg<'a>
+    ensures rule { rule_of result ≡ rows_rule }
+    ensures local { result.global ≡ false }
+{
+    Arg::new(alloc, "rows").value_name(name).help(help)
 }
 
 // The job of a parse.
@@ -292,6 +333,9 @@ fn job_of(alloc: Global, matches: &ArgMatches<'_>) -> Result<Job, WordsRefusal>
     if let Some(inner) = matches.subcommand_matches("deal") {
         return deal_job(alloc, inner);
     }
+    if let Some(inner) = matches.subcommand_matches("rows") {
+        return rows_job(alloc, inner);
+    }
     // This doesn't come: `wsm_command` has no other subcommand, and requires one.
     Err(WordsRefusal::Memory)
 }
@@ -301,11 +345,13 @@ fn run_job(alloc: Global, inner: &ArgMatches<'_>) -> Result<Job, WordsRefusal>
     ensures job { IfOk result (IsJob (codes "run") (entries_of (found_of inner.now))) }
     ensures refused { IfErr result IsMemory }
 {
-    let program = inner.get_flag("program");
+    let program = flag_of(inner, "program");
+    let from = option_of(alloc, inner, "from")?;
     let query = file_of(alloc, inner, "query")?;
     let rows = rows_in(alloc, inner)?;
     Ok(Job::Run {
         program,
+        from,
         query,
         rows,
     })
@@ -336,9 +382,14 @@ fn verify_job(alloc: Global, inner: &ArgMatches<'_>) -> Result<Job, WordsRefusal
     ensures job { IfOk result (IsJob (codes "verify") (entries_of (found_of inner.now))) }
     ensures refused { IfErr result IsMemory }
 {
-    let query = inner.get_flag("query");
+    let query = flag_of(inner, "query");
+    let from = option_of(alloc, inner, "from")?;
     let program = file_of(alloc, inner, "program")?;
-    Ok(Job::Verify { query, program })
+    Ok(Job::Verify {
+        query,
+        from,
+        program,
+    })
 }
 
 // The job of the words behind `explain`.
@@ -346,7 +397,7 @@ fn explain_job(alloc: Global, inner: &ArgMatches<'_>) -> Result<Job, WordsRefusa
     ensures job { IfOk result (IsJob (codes "explain") (entries_of (found_of inner.now))) }
     ensures refused { IfErr result IsMemory }
 {
-    let query = inner.get_flag("query");
+    let query = flag_of(inner, "query");
     let program = file_of(alloc, inner, "program")?;
     Ok(Job::Explain { query, program })
 }
@@ -356,7 +407,7 @@ fn deal_job(alloc: Global, inner: &ArgMatches<'_>) -> Result<Job, WordsRefusal>
     ensures job { IfOk result (IsJob (codes "deal") (entries_of (found_of inner.now))) }
     ensures refused { IfErr result IsMemory }
 {
-    let keys_of = inner.get_flag("keys-of");
+    let keys_of = flag_of(inner, "keys-of");
     let keys = file_of(alloc, inner, "keys")?;
     let parts = file_of(alloc, inner, "parts")?;
     let out = file_of(alloc, inner, "out")?;
@@ -368,6 +419,42 @@ fn deal_job(alloc: Global, inner: &ArgMatches<'_>) -> Result<Job, WordsRefusal>
         out,
         rows,
     })
+}
+
+// The job of the words behind `rows`.
+fn rows_job(alloc: Global, inner: &ArgMatches<'_>) -> Result<Job, WordsRefusal>
+    ensures job { IfOk result (IsJob (codes "rows") (entries_of (found_of inner.now))) }
+    ensures refused { IfErr result IsMemory }
+{
+    let program = flag_of(inner, "program");
+    let source = file_of(alloc, inner, "source")?;
+    let query = file_of(alloc, inner, "query")?;
+    let rows = rows_in(alloc, inner)?;
+    Ok(Job::Rows {
+        program,
+        source,
+        query,
+        rows,
+    })
+}
+
+// Whether a parse gives a flag.
+fn flag_of(inner: &ArgMatches<'_>, name: &str) -> bool
+    ensures { SaysFlag (one_of name.now (entries_of (found_of inner.now))) result }
+{
+    inner.get_flag(name)
+}
+
+// The value of an option, if a parse gives it. It stands as it is: `-` means nothing special.
+fn option_of(
+    alloc: Global,
+    inner: &ArgMatches<'_>,
+    name: &str,
+) -> Result<Option<String>, AllocError>
+    ensures { IfOk result (HasOption (entries_of (found_of inner.now)) name.now) }
+{
+    let value = text_of(alloc, inner.get_str(name))?;
+    Ok(value)
 }
 
 // The name of a file that a parse gives: its words have one.
@@ -384,7 +471,7 @@ fn file_of(alloc: Global, inner: &ArgMatches<'_>, id: &str) -> Result<String, Wo
 
 // The name of the file of the rows that a parse gives, if it gives one.
 fn rows_in(alloc: Global, inner: &ArgMatches<'_>) -> Result<Option<String>, AllocError>
-    ensures { IfOk result (λ rows. option_map string_bytes rows ≡ rows_named (first_of (codes "rows") (entries_of (found_of inner.now)))) }
+    ensures { IfOk result (NamesRows (entries_of (found_of inner.now))) }
 {
     let rows = rows_of(alloc, inner.get_str("rows"))?;
     Ok(rows)

@@ -14,34 +14,42 @@ fn job(alloc: Global, words: &[&str]) -> Result<String, Fail> {
     }
 }
 
-const JOBS: [(&[&str], &str); 13] = [
+const JOBS: [(&[&str], &str); 18] = [
     (
         &["wsm", "run", "q"],
-        "Run { program: false, query: \"q\", rows: None }",
+        "Run { program: false, from: None, query: \"q\", rows: None }",
     ),
     (
         &["wsm", "run", "q", "r"],
-        "Run { program: false, query: \"q\", rows: Some(\"r\") }",
+        "Run { program: false, from: None, query: \"q\", rows: Some(\"r\") }",
     ),
     (
         &["wsm", "run", "--program", "p"],
-        "Run { program: true, query: \"p\", rows: None }",
+        "Run { program: true, from: None, query: \"p\", rows: None }",
     ),
     (
         &["wsm", "run", "p", "r", "--program"],
-        "Run { program: true, query: \"p\", rows: Some(\"r\") }",
+        "Run { program: true, from: None, query: \"p\", rows: Some(\"r\") }",
     ),
     (
         &["wsm", "run", "--", "--program"],
-        "Run { program: false, query: \"--program\", rows: None }",
+        "Run { program: false, from: None, query: \"--program\", rows: None }",
     ),
     (
         &["wsm", "run", "q", "-"],
-        "Run { program: false, query: \"q\", rows: None }",
+        "Run { program: false, from: None, query: \"q\", rows: None }",
     ),
     (
         &["wsm", "run", "-", "./-"],
-        "Run { program: false, query: \"-\", rows: Some(\"./-\") }",
+        "Run { program: false, from: None, query: \"-\", rows: Some(\"./-\") }",
+    ),
+    (
+        &["wsm", "run", "--from", "s", "q", "l"],
+        "Run { program: false, from: Some(\"s\"), query: \"q\", rows: Some(\"l\") }",
+    ),
+    (
+        &["wsm", "run", "p", "--from=-", "--program"],
+        "Run { program: true, from: Some(\"-\"), query: \"p\", rows: None }",
     ),
     (
         &["wsm", "compile", "q", "o"],
@@ -53,11 +61,15 @@ const JOBS: [(&[&str], &str); 13] = [
     ),
     (
         &["wsm", "verify", "p"],
-        "Verify { query: false, program: \"p\" }",
+        "Verify { query: false, from: None, program: \"p\" }",
     ),
     (
         &["wsm", "verify", "--query", "q"],
-        "Verify { query: true, program: \"q\" }",
+        "Verify { query: true, from: None, program: \"q\" }",
+    ),
+    (
+        &["wsm", "verify", "--query", "--from", "s", "q"],
+        "Verify { query: true, from: Some(\"s\"), program: \"q\" }",
     ),
     (
         &["wsm", "explain", "p"],
@@ -66,6 +78,14 @@ const JOBS: [(&[&str], &str); 13] = [
     (
         &["wsm", "explain", "q", "--query"],
         "Explain { query: true, program: \"q\" }",
+    ),
+    (
+        &["wsm", "rows", "s", "q", "l"],
+        "Rows { program: false, source: \"s\", query: \"q\", rows: Some(\"l\") }",
+    ),
+    (
+        &["wsm", "rows", "s", "--program", "p", "-"],
+        "Rows { program: true, source: \"s\", query: \"p\", rows: None }",
     ),
 ];
 
@@ -79,7 +99,7 @@ fn words_ask_for_jobs(rt: HostRuntime) -> Result<(), Fail> {
 }
 
 // Words that ask for no job, and what `clap` calls it.
-const REFUSED: [(&[&str], ErrorKind); 7] = [
+const REFUSED: [(&[&str], ErrorKind); 9] = [
     (&["wsm", "--version"], ErrorKind::DisplayVersion),
     (&["wsm", "-V"], ErrorKind::DisplayVersion),
     (&["wsm", "--help"], ErrorKind::DisplayHelp),
@@ -87,6 +107,8 @@ const REFUSED: [(&[&str], ErrorKind); 7] = [
     (&["wsm", "walk"], ErrorKind::InvalidSubcommand),
     (&["wsm", "run"], ErrorKind::MissingRequiredArgument),
     (&["wsm", "run", "q", "r", "s"], ErrorKind::UnknownArgument),
+    (&["wsm", "run", "q", "--from"], ErrorKind::InvalidValue),
+    (&["wsm", "rows", "s"], ErrorKind::MissingRequiredArgument),
 ];
 
 // What `clap` calls the refusal of the words, if it is one of theirs.
@@ -109,7 +131,7 @@ fn refusals_are_told_as_themselves(rt: HostRuntime) {
 #[test]
 fn the_version_is_told(rt: HostRuntime) -> Result<(), Fail> {
     let text = job(rt.alloc(), &["wsm", "--version"])?;
-    let want = "wsm 1.1.0 (kit 13f, commit 0000000000000000000000000000000000000000)\n";
+    let want = "wsm 1.2.0 (kit 13f, commit 0000000000000000000000000000000000000000)\n";
     assert_eq!(rt; text.as_str(), want);
     Ok(())
 }

@@ -1,11 +1,10 @@
-use Rattle.std.proofs.Common.{rules, ◌≡◌, ◌∙◌, ap₂}
-use Rattle.clap.specs.Words.{rule_of, with_rule}
-use Rattle.wsm_words.specs.Words.{rows_rule}
+use Rattle.std.proofs.Common.{◌∙◌, ap₂}
+use Rattle.clap.specs.Words.{with_rule}
 use Rattle.wsm_words.proofs.words.run_command.Goals as goal
 
--- texts for help change no rule
 pub returns : goal.returns
 returns c =
-    let rows_is : rule_of c.help-rows.result ≡ rows_rule = search rules in
     let flagged = c.in_ok-arg.ensures.shape c.flag.ensures.local ∙ ap₂ with_rule c.command.ensures c.flag.ensures.rule in
-    c.in_ok-run.ensures.shape (search rules) ∙ ap₂ with_rule (c.in_ok-arg-2.ensures.shape c.file.ensures.local ∙ ap₂ with_rule flagged c.file.ensures.rule) rows_is
+    let sourced = c.in_ok-arg-2.ensures.shape c.option.ensures.local ∙ ap₂ with_rule flagged c.option.ensures.rule in
+    let named = c.in_ok-arg-3.ensures.shape c.file.ensures.local ∙ ap₂ with_rule sourced c.file.ensures.rule in
+    c.in_ok-run.ensures.shape c.rows_file.ensures.local ∙ ap₂ with_rule named c.rows_file.ensures.rule

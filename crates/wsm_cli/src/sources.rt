@@ -1,0 +1,165 @@
+//! Sources: the files that say how the lines of a log are read.
+
+ghost use Rattle.std.specs.Prelude.{IfOk};
+ghost use Rattle.wsm_intake.specs.Clocks.{AreRules};
+
+use crate::jobs::{end_of, read};
+use crate::stop::Stop;
+use std::fs;
+use std::io::ErrorKind;
+use std::rt::Files;
+use wsm::End;
+use wsm_intake::{Rule, rule_of};
+use wsm_lines::Source;
+use wsm_rules::Verified;
+use wsm_source::{
+    ClockDescription, Description, FormDescription, KeyNaming, Refusal, SourceFault, SourceRefusal,
+    bind, describe,
+};
+use wsm_values::{Word, Zone, ZoneFault};
+
+// Where the zones of the system stand.
+const ZONES: &str = "/usr/share/zoneinfo/";
+
+/// What a source comes to for a program: how a line is read, and how its clocks make watermarks, where it has any.
+#[derive(Drop)]
+pub struct Bound {
+    pub source: Source,
+    pub rule: Option<Rule>,
+}
+
+/// The source that a file has, for an accepted program.
+pub fn source_for<R: Files + AllocGlobal>(
+    rt: &R,
+    name: &String,
+    verified: &Verified,
+) -> Result<Bound, Stop>
+    ensures { IfOk result (λ bound. AreRules bound.rule) }
+{
+    let bytes = read(rt, name)?;
+    let Ok(text) = str::from_utf8(&bytes) else {
+        return Err(refused(rt, SourceFault::NotToml, "", ""));
+    };
+    let description = describe(rt.alloc(), text)?;
+    let source = source_of(rt, name, text, &description, verified)?;
+    let rule = rule_for(rt, text, description.clock, verified)?;
+    Ok(Bound { source, rule })
+}
+
+// What the text of a source says of a program's records.
+fn source_of<R: Files + AllocGlobal>(
+    rt: &R,
+    name: &String,
+    text: &str,
+    description: &Description,
+    verified: &Verified,
+) -> Result<Source, Stop> {
+    let zone = zone_of(rt, text, &description.time.form)?;
+    let names = names_of(rt, name, &description.key.naming)?;
+    let schema = &verified.program().header().schema;
+    match bind(rt.alloc(), description, schema, zone, &names) {
+        Ok(source) => Ok(source),
+        Err(refusal) => Err(Stop::Source(SourceRefusal::of(refusal, text))),
+    }
+}
+
+// The rule of the clocks that a source has. A query with SOURCES has a watermark of each, and takes none of clocks.
+fn rule_for<R: AllocGlobal>(
+    rt: &R,
+    text: &str,
+    clock: Option<ClockDescription>,
+    verified: &Verified,
+) -> Result<Option<Rule>, Stop>
+    ensures { IfOk result AreRules }
+{
+    let Some(clock) = clock else {
+        return Ok(None);
+    };
+    let header = verified.program().header();
+    if header.schema.sources().len() != 0 {
+        return Err(refused(rt, SourceFault::Conflict, "clock", text));
+    }
+    match rule_of(
+        clock.agree,
+        clock.bound,
+        clock.step,
+        clock.forget,
+        header.clock.start,
+    ) {
+        Some(rule) => Ok(Some(rule)),
+        None => Err(refused(rt, SourceFault::BadRange, "clock", text)),
+    }
+}
+
+// A refusal of what a key of the text says.
+fn refused<R: AllocGlobal>(rt: &R, fault: SourceFault, path: &str, text: &str) -> Stop {
+    match Word::new(rt.alloc(), path) {
+        Ok(path) => Stop::Source(SourceRefusal::of(Refusal::Fault(fault, path), text)),
+        Err(_) => Stop::End(End::Memory),
+    }
+}
+
+// The zone that a form of times names; those that name none have their offset in the text.
+fn zone_of<R: Files + AllocGlobal>(
+    rt: &R,
+    text: &str,
+    form: &FormDescription,
+) -> Result<Zone, Stop> {
+    match form {
+        FormDescription::Local { zone, .. } => zone_named(rt, text, zone.as_str()),
+        _ => Ok(Zone::Utc),
+    }
+}
+
+// The zone of a name.
+fn zone_named<R: Files + AllocGlobal>(rt: &R, text: &str, name: &str) -> Result<Zone, Stop> {
+    if name == "UTC" {
+        return Ok(Zone::Utc);
+    }
+    if name.starts_with("/") || name.contains("..") {
+        return Err(refused(rt, SourceFault::BadWord, "time.zone", text));
+    }
+    let path = format!(in rt.alloc(); "{ZONES}{name}")?;
+    match fs::read(rt, path.as_str()) {
+        Ok(bytes) => zone_in(rt, text, &bytes),
+        Err(error) => match error.kind() {
+            ErrorKind::OutOfMemory => Err(Stop::End(End::Memory)),
+            _ => Err(refused(rt, SourceFault::BadWord, "time.zone", text)),
+        },
+    }
+}
+
+// The zone that a file's bytes have.
+fn zone_in<R: AllocGlobal>(rt: &R, text: &str, bytes: &[u8]) -> Result<Zone, Stop> {
+    match Zone::of_table(rt.alloc(), bytes) {
+        Ok(zone) => Ok(zone),
+        Err(ZoneFault::NoTable) => Err(refused(rt, SourceFault::BadWord, "time.zone", text)),
+        Err(ZoneFault::Memory) => Err(Stop::End(End::Memory)),
+    }
+}
+
+// The text of the names' file, which stands beside the source's; none where keys have no file.
+fn names_of<R: Files + AllocGlobal>(
+    rt: &R,
+    source: &String,
+    naming: &KeyNaming,
+) -> Result<Vec<u8>, Stop> {
+    match naming {
+        KeyNaming::File { file, .. } => names_beside(rt, source.as_str(), file.as_str()),
+        _ => Ok(Vec::new(rt.alloc())),
+    }
+}
+
+// The bytes of a file beside another one.
+fn names_beside<R: Files + AllocGlobal>(rt: &R, source: &str, file: &str) -> Result<Vec<u8>, Stop> {
+    let path = match source.rsplit_once("/") {
+        Some((folder, _)) if !file.starts_with("/") => {
+            format!(in rt.alloc(); "{folder}/{file}")?
+        }
+        _ => String::from_str(rt.alloc(), file)?,
+    };
+    match fs::read(rt, path.as_str()) {
+        Ok(bytes) => Ok(bytes),
+        Err(error) => Err(Stop::End(end_of(&error, End::ReadFailed))),
+    }
+}

@@ -1,0 +1,38 @@
+//! How a job ended early.
+
+use std::alloc::{AllocError, AllocFailed};
+use wsm::End;
+use wsm_source::SourceRefusal;
+
+/// How a job ended early.
+#[derive(Drop)]
+pub enum Stop {
+    /// Its source is refused; nothing was written.
+    Source(SourceRefusal),
+    /// As a job without a source ends.
+    End(End),
+}
+
+impl From<End> for Stop {
+    fn from(end: End) -> Stop {
+        Stop::End(end)
+    }
+}
+
+impl From<SourceRefusal> for Stop {
+    fn from(refusal: SourceRefusal) -> Stop {
+        Stop::Source(refusal)
+    }
+}
+
+impl From<AllocError> for Stop {
+    fn from(_error: AllocError) -> Stop {
+        Stop::End(End::Memory)
+    }
+}
+
+impl<T: Drop> From<AllocFailed<T>> for Stop {
+    fn from(_error: AllocFailed<T>) -> Stop {
+        Stop::End(End::Memory)
+    }
+}
