@@ -1,0 +1,131 @@
+"""The times of a log: in which of the forms of a source they are written, and the seconds since 1970 of each.
+
+What is read here is read alike by a source of that form. Patterns are those that logs have most often, and their texts
+must have all that a pattern has.
+"""
+import re
+import sys
+from datetime import datetime, timedelta, timezone
+from typing import Callable, Dict, List, Optional, Tuple
+
+sys.dont_write_bytecode = True
+
+from row_lines import BAD_WORDS, Ended
+
+MONTHS = "jan feb mar apr may jun jul aug sep oct nov dec".split()
+DIRECTIVES = {
+    "Y": r"(?P<Y>\d{4})", "m": r"(?P<m>\d\d?)", "d": r"(?P<d>\d\d?)", "H": r"(?P<H>\d\d?)", "M": r"(?P<M>\d\d)", "S": r"(?P<S>\d\d)",
+    "f": r"(?P<f>\d{1,9})", "b": f"(?P<b>(?i:{'|'.join(MONTHS)}))", "z": r"(?P<z>[+-]\d{4})", "a": "(?i:sun|mon|tue|wed|thu|fri|sat)",
+}
+DAYS = ("%Y-%m-%d", "%Y/%m/%d", "%d.%m.%Y", "%d/%m/%Y", "%m/%d/%Y", "%d-%b-%Y", "%d %b %Y")
+CLOCKS = ("%H:%M:%S", "%H:%M:%S.%f", "%H:%M")
+PATTERNS = [
+    "%d/%b/%Y:%H:%M:%S %z", "%a, %d %b %Y %H:%M:%S %z", "%a %b %d %H:%M:%S %Y",
+    *(f"{day}{apart}{clock}{offset}" for offset in ("%z", " %z", "") for day in DAYS for apart in (" ", "T") for clock in CLOCKS),
+]
+RFC_3339 = re.compile(r"(\d{4})-(\d\d)-(\d\d)[Tt ](\d\d):(\d\d):(\d\d)(?:\.\d{1,9})?(?:[Zz]|([+-])(\d\d):(\d\d))", re.ASCII)
+COUNTS = {"seconds": 1, "milliseconds": 10**3, "microseconds": 10**6}
+PLAUSIBLE = (10**8, 10**10)  # seconds since 1970, for a number that isn't said to be a time
+Seconds = Callable[[str], Optional[int]]
+
+
+def day_and_clock(*numbers: int) -> Optional[datetime]:
+    year, month, day, hour, minute, second = numbers
+    try:
+        return datetime(year, month, day, hour, minute, 59 if second == 60 else second)
+    except ValueError:
+        return None
+
+
+def since_1970(shown: datetime) -> int:
+    return (shown - datetime(1970, 1, 1)) // timedelta(seconds=1)
+
+
+def rfc_3339(text: str) -> Optional[int]:
+    read = RFC_3339.fullmatch(text)
+    shown = read and day_and_clock(*map(int, read.groups()[:6]))
+    if not shown or int(read[8] or 0) > 23 or int(read[9] or 0) > 59:
+        return None
+    ahead = (int(read[8] or 0) * 60 + int(read[9] or 0)) * 60
+    return since_1970(shown) + (ahead if read[7] == "-" else -ahead)
+
+
+def count(per_second: int, digits: int, plain: bool) -> Seconds:
+    """The seconds of a count of parts of a second, or of one with so many digits behind a point."""
+    form = re.compile(r"\d{1,17}" + (rf"(?:\.\d{{1,{digits}}})?" if digits else ""), re.ASCII)
+
+    def seconds(text: str) -> Optional[int]:
+        if not form.fullmatch(text):
+            return None
+        time = int(text.partition(".")[0]) // per_second
+        return time if plain or PLAUSIBLE[0] <= time < PLAUSIBLE[1] else None
+    return seconds
+
+
+# ---- patterns and zones
+
+class Zone:
+    """The clock of a zone, and how often it showed a time twice."""
+
+    def __init__(self, name: Optional[str]):
+        self.name, self.folds, self.zone = name, 0, timezone.utc
+        if name not in (None, "UTC"):
+            from zoneinfo import ZoneInfo
+            try:
+                self.zone = ZoneInfo(name)
+            except Exception:
+                raise Ended(f"{name} is no zone of /usr/share/zoneinfo", BAD_WORDS) from None
+
+    def seconds(self, shown: datetime) -> Optional[int]:
+        """The first instant at which the clock shows this."""
+        if self.zone is timezone.utc:
+            return since_1970(shown)
+        instants = []
+        for fold in (0, 1):
+            instant = shown.replace(tzinfo=self.zone, fold=fold).astimezone(timezone.utc)
+            if instant.astimezone(self.zone).replace(tzinfo=None, fold=0) == shown:
+                instants.append(since_1970(instant.replace(tzinfo=None)))
+        self.folds += len(set(instants)) > 1
+        return min(instants) if instants else None
+
+
+def has_zone(form: str) -> bool:
+    return "%" not in form or "%z" in form
+
+
+def pattern(form: str, zone: Zone) -> Seconds:
+    parts = re.findall(r"%(.)|(.)", form)
+    read_by = re.compile("".join(DIRECTIVES[letter] if letter else re.escape(plain) for letter, plain in parts), re.ASCII)
+
+    def seconds(text: str) -> Optional[int]:
+        read = read_by.fullmatch(text)
+        if read is None:
+            return None
+        part = read.groupdict()
+        month = MONTHS.index(part["b"].lower()) + 1 if "b" in part else int(part["m"])
+        shown = day_and_clock(int(part["Y"]), month, int(part["d"]), int(part["H"]), int(part["M"]), int(part.get("S", 0)))
+        if shown is None or "z" not in part:
+            return shown and zone.seconds(shown)
+        hours, minutes = int(part["z"][1:3]), int(part["z"][3:])
+        ahead = (hours * 60 + minutes) * 60
+        return since_1970(shown) + (ahead if part["z"][0] == "-" else -ahead) if hours < 24 and minutes < 60 else None
+    return seconds
+
+
+def forms(zone: Zone, plain: bool = False) -> Dict[str, Seconds]:
+    """Each form with what reads it. Where it is plain that a number is a time, a small one is a time too."""
+    found: Dict[str, Seconds] = {"rfc3339": rfc_3339}
+    for name, per_second in COUNTS.items():
+        found[name] = count(per_second, 0, plain and name == "seconds")
+    found["fraction"] = count(1, 6, plain)
+    found.update({form: pattern(form, zone) for form in PATTERNS})
+    return found
+
+
+def form_of(texts: List[str], plain: bool) -> Tuple[str, int, List[str]]:
+    """The form that reads the most of some texts, how many it reads, and which others read as many of the same kind."""
+    zone = Zone(None)
+    read = {name: sum(seconds(text) is not None for text in texts) for name, seconds in forms(zone, plain).items()}
+    best = max(read, key=read.get)
+    others = [name for name, number in read.items() if "%" in best and number == read[best] and name != best]
+    return best, read[best], others
