@@ -5,7 +5,7 @@ usage: reference.py QUERY [ROWS]
        reference.py --explain QUERY
        reference.py --bytes VERSION QUERY OUT
 
-An independent computation to compare the product with: nothing here is shared with its code. Each
+An independent computation to compare the program with: nothing here is shared with its crates. Each
 turn is computed anew from all rows so far, as the definitions say it, so this is for short inputs
 whose rows have no quotes. A query that is refused or rejected is told as `wsm run` tells it.
 
