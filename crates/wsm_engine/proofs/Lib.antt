@@ -13,3 +13,4 @@ pub mod Told
 mod Ignoring
 pub mod LongestRuns
 pub mod AccumulatorLaws
+pub mod DiscardingPanes

@@ -4,6 +4,7 @@ ghost use Rattle.std.specs.Prelude.{◌≡◌, ◌≤◌, List, [], ◌∷◌, l
 ghost use Rattle.wsm_record.specs.Event.{Event as AnyEvent, event_of};
 ghost use Rattle.wsm_admission.specs.Clock.{fits_declared};
 ghost use Rattle.wsm_semantics.specs.Panes.{held};
+ghost use Rattle.wsm_semantics.specs.Query.{mark};
 ghost use Rattle.wsm_semantics.specs.Relation.{turn_rows};
 ghost use Rattle.wsm_program.specs.Program.{is_program};
 ghost use Rattle.wsm_rules.specs.Costs.{needed};
@@ -133,6 +134,13 @@ impl Engine {
         ensures { result.now ≡ self.now.program.header.schema }
     {
         &self.verified.program().header().schema
+    }
+
+    /// The watermark, in event time: the least of those of the sources.
+    pub fn mark(&self) -> i64
+        ensures { (past : List AnyEvent) → Fits self.now past → result ≡ mark (query_of self.now.program) past }
+    {
+        self.admission.mark()
     }
 
     /// What all events so far come to.

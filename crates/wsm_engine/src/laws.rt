@@ -21,6 +21,9 @@ ghost use Rattle.wsm_semantics.specs.ByKey.{Keys, ByKey, RowsByKey, EachOnce, Pa
 ghost use Rattle.wsm_semantics.specs.FromWatermark.{Stays, whole, rest, Times, LeavesOut, begun_at, BeginAlike, HasNoSessions, IsSettled, PartsNoSession, dropped_times, MayLeaveOut, SameAfter, SameRowsAfter, SameBeyond, SameRowsBeyond, SameOnceSettled};
 ghost use Rattle.wsm_semantics.specs.FromKept.{KeepAlike, FollowAlike};
 ghost use Rattle.wsm_semantics.specs.Needed.{IsOfLive, needed, NeededAlone, WritesAlike};
+ghost use Rattle.wsm_semantics.specs.Amounts.{Amount, AddsAmounts, AmountsAddUp};
+ghost use Rattle.wsm_semantics.specs.Deliveries.{Delivery, AreTimed, PassesAlike, WritesOnce};
+ghost use Rattle.wsm_semantics.specs.Invoice.{Invoices};
 ghost use Rattle.wsm_program.specs.Program.{Program, is_program};
 ghost use Rattle.wsm_program.specs.declared.program.Costs.{Costs};
 ghost use Rattle.wsm_rules.specs.Costs.{longest_path};
@@ -155,4 +158,24 @@ pub fn joins_within()
         → sum_by (λ e. length e.1) (held (query_of p) past) ≤ admitted_count p.header.clock p.header.shape p.header.schema past }
     ensures sums { (p : Program) (costs : Costs) (gap : ℤ) → judge p ≡ Ok costs → IsTrue (is_program p) → p.header.shape ≡ Session gap → (past : List Event)
         → EachTwo (λ e f. JoinFits p e.1 f.1) (kept (query_of p) past) }
+{}
+
+/// Where panes discard what they showed, a column that adds up comes, over all rows of some windows, to what the records
+/// of these windows come to, once the windows were dropped. Which firings told of them, and when, is of no account.
+pub fn amounts_add_up()
+    ensures { (p : Program) → IsTrue (is_program p) → p.header.mode ≡ Discarding → (c : ℕ) (amount : Amount) → AddsAmounts (query_of p) c amount → AmountsAddUp (query_of p) c amount }
+{}
+
+/// Deliveries that come at least once pass once where each identifier is forgotten as soon as a record of its first time is
+/// late: a double with no later time that passes then is late too. So the same rows are written as where identifiers are
+/// remembered for ever.
+pub fn passes_once()
+    ensures alike { (p : Program) → IsTrue (is_program p) → (time_of : ℕ → ℤ) (ds : List Delivery) → AreTimed time_of ds → PassesAlike (query_of p) ds }
+    ensures rows { (p : Program) → IsTrue (is_program p) → (time_of : ℕ → ℤ) (ds : List Delivery) → AreTimed time_of ds → WritesOnce (plan_of p) (query_of p) ds }
+{}
+
+/// So where each record is delivered at least once and taken when it first comes, what is written of a span of time is
+/// what its records come to: each once, in whatever order they came, and however often.
+pub fn invoice()
+    ensures { (p : Program) → IsTrue (is_program p) → p.header.mode ≡ Discarding → (c : ℕ) (amount : Amount) → AddsAmounts (query_of p) c amount → Invoices (query_of p) c amount }
 {}

@@ -1,9 +1,9 @@
 -- What tests of numbers and of options tell, and when numbers pass them.
-use Rattle.std.proofs.Common.{◌≡◌, ℕ, ◌+◌, ◌<◌, true, false, ◌&&◌, ℤ, ◌≤ℤ◌, ◌<ℤ◌, Option, Some, None, is_none, refl, sym, arith}
+use Rattle.std.proofs.Common.{◌≡◌, ℕ, ◌+◌, ◌<◌, Bool, true, false, ◌&&◌, ℤ, ◌≤ℤ◌, ◌<ℤ◌, Option, Some, None, is_none, refl, sym, arith}
 use Rattle.std.proofs.lemmas.Int.{ints}
 use Rattle.std.proofs.lemmas.Bool.{true≢false}
 use Rattle.std.proofs.lemmas.Bool.Decides.{nat_tests}
-use Rattle.std.specs.Prelude.{int_le, int_lt, nat_lt}
+use Rattle.std.specs.Prelude.{int_le, int_lt, nat_lt, not}
 
 -- ---- what a test tells
 
@@ -16,6 +16,10 @@ no_less a b h = grind (arith, ints)
 pub none_is : {A : Type 0} (v : Option A) → is_none v ≡ true → v ≡ None
 none_is None h = refl
 none_is (Some x) h = absurd (true≢false (sym h))
+
+pub not_false : (b : Bool) → not b ≡ false → b ≡ true
+not_false true h = refl
+not_false false h = absurd (true≢false h)
 
 -- ---- what passes one, and what fails it
 

@@ -35,6 +35,11 @@ use Rattle.wsm_semantics.proofs.EventTurns.{kept-watermark}
 use Rattle.wsm_semantics.proofs.Steps.{panes_are, fired_are, rows_are, relation_is}
 use Rattle.wsm_semantics.proofs.LaterMarks.{mark_alike, next_marks, verdict_alike}
 
+-- where none is refused for RECORDS an event has the same verdict after both
+pub verdict_kept : {X : Type 0} (plan : Plan X) (q : Query) (start records : ℤ) (past other : List Event) → KeepAlike plan q start records past other → (e : Event) → BothHaveRoom q start records (e ∷ past) (e ∷ other) →
+    verdict_on (begun_at start records q) other e ≡ verdict_on q past e
+verdict_kept plan q start records past other alike e room = verdict_alike q start records past other alike.marks e room.0.0 room.1.0
+
 module _ {X : Type 0} (plan : Plan X) (lawful : IsLawful plan) (q : Query) (runs : Runs plan q) (ok : IsShape q.shape) (timely : SessionsByEvent q) (low : pos 0 ≤ℤ q.clock.lateness) (start records : ℤ) where
   abbrev anew : Query
   anew = begun_at start records q
@@ -42,9 +47,9 @@ module _ {X : Type 0} (plan : Plan X) (lawful : IsLawful plan) (q : Query) (runs
   runs_anew : Runs plan anew
   runs_anew = record { selects = runs.selects; row = runs.row }
 
-  -- ---- one event
+  -- ---- one event that has the same verdict after both
 
-  module _ (past other : List Event) (alike : KeepAlike plan q start records past other) (e : Event) (room : BothHaveRoom q start records (e ∷ past) (e ∷ other)) where
+  module _ (past other : List Event) (alike : KeepAlike plan q start records past other) (e : Event) (verdict : verdict_on anew other e ≡ verdict_on q past e) where
     -- what is kept, as a machine has it
     abbrev state : List (List Cell) → State X
     state related = record {
@@ -58,9 +63,6 @@ module _ {X : Type 0} (plan : Plan X) (lawful : IsLawful plan) (q : Query) (runs
     -- the watermark is the same before the event and after it
     same_marks : (mark anew other ≡ mark q past) × (mark anew (e ∷ other) ≡ mark q (e ∷ past))
     same_marks = (mark_alike q start records past other alike.marks, mark_alike q start records (e ∷ past) (e ∷ other) (next_marks q start records past other alike.marks e))
-
-    pub verdict : verdict_on anew other e ≡ verdict_on q past e
-    verdict = verdict_alike q start records past other alike.marks e room.0.0 room.1.0
 
     abbrev answers : Result Admitted Refusal
     answers = answer (mark q past) (mark q (e ∷ past)) e (verdict_on q past e)
@@ -147,19 +149,24 @@ module _ {X : Type 0} (plan : Plan X) (lawful : IsLawful plan) (q : Query) (runs
   module _ (past other : List Event) (alike : KeepAlike plan q start records past other) where
     all_alike : (events : List Event) → BothHaveRoom q start records (events ++ past) (events ++ other) → KeepAlike plan q start records (events ++ past) (events ++ other)
     all_alike [] room = alike
-    all_alike (e ∷ events) room = next_alike (events ++ past) (events ++ other) (all_alike events (room.0.1, room.1.1)) e room
+    all_alike (e ∷ events) room =
+        let before : KeepAlike plan q start records (events ++ past) (events ++ other) = all_alike events (room.0.1, room.1.1) in
+        next_alike (events ++ past) (events ++ other) before e (verdict_kept plan q start records (events ++ past) (events ++ other) before e room)
+
+    verdict_then : (events : List Event) (e : Event) → BothHaveRoom q start records (e ∷ events ++ past) (e ∷ events ++ other) → verdict_on anew (events ++ other) e ≡ verdict_on q (events ++ past) e
+    verdict_then events e room = verdict_kept plan q start records (events ++ past) (events ++ other) (all_alike events (room.0.1, room.1.1)) e room
 
     all_related : relation q past ≡ relation anew other → (events : List Event) → BothHaveRoom q start records (events ++ past) (events ++ other) → relation q (events ++ past) ≡ relation anew (events ++ other)
     all_related same [] room = same
-    all_related same (e ∷ events) room = relation_alike (events ++ past) (events ++ other) (all_alike events (room.0.1, room.1.1)) e room (all_related same events (room.0.1, room.1.1))
+    all_related same (e ∷ events) room = relation_alike (events ++ past) (events ++ other) (all_alike events (room.0.1, room.1.1)) e (verdict_then events e room) (all_related same events (room.0.1, room.1.1))
 
     pub follow_alike : FollowAlike plan q start records past other
     follow_alike = record {
       kept = all_alike;
-      verdict = λ events e room. verdict (events ++ past) (events ++ other) (all_alike events (room.0.1, room.1.1)) e room;
-      firings = λ events e room. fires_alike (events ++ past) (events ++ other) (all_alike events (room.0.1, room.1.1)) e room;
-      rows = λ panes_alone events e room. rows_alike (events ++ past) (events ++ other) (all_alike events (room.0.1, room.1.1)) e room panes_alone;
-      streams = λ same events e room. streams_alike (events ++ past) (events ++ other) (all_alike events (room.0.1, room.1.1)) e room (all_related same events (room.0.1, room.1.1));
+      verdict = verdict_then;
+      firings = λ events e room. fires_alike (events ++ past) (events ++ other) (all_alike events (room.0.1, room.1.1)) e (verdict_then events e room);
+      rows = λ panes_alone events e room. rows_alike (events ++ past) (events ++ other) (all_alike events (room.0.1, room.1.1)) e (verdict_then events e room) panes_alone;
+      streams = λ same events e room. streams_alike (events ++ past) (events ++ other) (all_alike events (room.0.1, room.1.1)) e (verdict_then events e room) (all_related same events (room.0.1, room.1.1));
     }
 
 -- ---- a watermark right before another

@@ -89,3 +89,12 @@ pub mod LaterKept
 pub mod KeptAlike
 pub mod NeededLive
 pub mod NeededEvents
+pub mod Sums
+pub mod Amounts
+pub mod AmountWindows
+pub mod AmountSpans
+pub mod AmountSessions
+pub mod AmountLaw
+pub mod Deliveries
+pub mod DeliveriesRows
+pub mod InvoiceLaw

@@ -36,7 +36,7 @@ use Rattle.wsm_semantics.proofs.KeyParts.{fewer_admitted, one_more, no_fewer}
 use Rattle.wsm_semantics.proofs.LaterMarks.{marks_each, source_alike, next_marks, marks_of_steps}
 use Rattle.wsm_semantics.proofs.LaterParts.{over_settled, over_parts_none}
 use Rattle.wsm_semantics.proofs.LaterKept.{summaries_settled}
-use Rattle.wsm_semantics.proofs.KeptAlike.{twice, next_alike, relation_alike, relation_risen, follow_alike}
+use Rattle.wsm_semantics.proofs.KeptAlike.{twice, verdict_kept, next_alike, relation_alike, relation_risen, follow_alike}
 
 itself : (m : ℤ) → m ≤ℤ m
 itself m = omega (arith, ints)
@@ -375,8 +375,10 @@ module _ {X : Type 0} (plan : Plan X) (lawful : IsLawful plan) (q : Query) (runs
           | true ↦ elim chosen as (λ c. chosen ≡ c → HasRoom new (cond c (e ∷ needs_of [] past) (needs_of told past)) → sums q (e ∷ mid past) ≡ raised_to (cond c (e ∷ needs_of [] past) (needs_of told past)) (e ∷ mid past)) [
             | true ↦ λ _ roomy.
                 let some : List Event = needs_of [] past in
+                let before : KeepAlike plan q start records (mid past) some = keep_alike past (panes_of_needed past room.1 [] roomy.1) in
                 let next : KeepAlike plan q start records (e ∷ mid past) (e ∷ some) =
-                next_alike plan lawful q runs ok timely low start records (mid past) some (keep_alike past (panes_of_needed past room.1 [] roomy.1)) e ((λ full. room.0 (sym (later_verdict q x past e room) ∙ full), later_room q x past room.1), roomy) in
+                next_alike plan lawful q runs ok timely low start records (mid past) some before e
+                (verdict_kept plan q start records (mid past) some before e ((λ full. room.0 (sym (later_verdict q x past e room) ∙ full), later_room q x past room.1), roomy)) in
                 next.panes
                 ∙ ap (summaries plan q.mode) (sym (still (e ∷ some)))
                 ∙ ap (λ (m : ℤ). summaries plan q.mode (kept_after_watermark q (mark new (e ∷ some)) m (kept new (e ∷ some)))) (ap least next.marks)
@@ -440,11 +442,13 @@ module _ {X : Type 0} (plan : Plan X) (lawful : IsLawful plan) (q : Query) (runs
         | true ↦ λ up roomy.
             let some : List Event = needed_by_panes q past in
             let alike : KeepAlike plan q start records past some = panes_alike past room.1 roomy.1 in
-            (next_alike plan lawful q runs ok timely low start records past some alike e (room, roomy), relation_risen plan lawful q runs ok timely low start records past some alike e (room, roomy) up)
+            let verdict = verdict_kept plan q start records past some alike e (room, roomy) in
+            (next_alike plan lawful q runs ok timely low start records past some alike e verdict, relation_risen plan lawful q runs ok timely low start records past some alike e verdict up)
         | false ↦ λ _ roomy.
             let some : List Event = needed_by_streams q past in
             let before : Related past some = streams_related past room.1 roomy.1 in
-            (next_alike plan lawful q runs ok timely low start records past some before.0 e (room, roomy), relation_alike plan lawful q runs ok timely low start records past some before.0 e (room, roomy) before.1)
+            let verdict = verdict_kept plan q start records past some before.0 e (room, roomy) in
+            (next_alike plan lawful q runs ok timely low start records past some before.0 e verdict, relation_alike plan lawful q runs ok timely low start records past some before.0 e verdict before.1)
       ] refl roomy
 
   by_form : (form : Form) (past : List Event) → HasRoom q past → HasRoom new (needed_by form q past) → KeepAlike plan q start records past (needed_by form q past)

@@ -49,7 +49,7 @@ after_first first t h = grind (arith, ints)
 first_after : (first start t : ℤ) → first ≤ℤ start → start ≤ℤ t → int_lt (first -ℤ pos 1) t ≡ true
 first_after first start t h k = grind (arith, ints)
 
-any_of : {A : Type 0} (p : A → Bool) (xs : List A) (x : A) → Contains xs x → p x ≡ true → list_any p xs ≡ true
+pub any_of : {A : Type 0} (p : A → Bool) (xs : List A) (x : A) → Contains xs x → p x ≡ true → list_any p xs ≡ true
 any_of p xs x there passes =
     elim (list_any p xs) as (λ b. list_any p xs ≡ b → b ≡ true) [
       | true ↦ λ _. refl
@@ -98,7 +98,7 @@ module _ (gap : ℤ) (long : pos 1 ≤ℤ gap) where
   or_longer u a b h = omega (arith, ints, clamps)
 
   -- a session that a time lies in lasts a gap past it
-  abbrev Lasts : ℤ → Window → Type 0
+  abbrev pub Lasts : ℤ → Window → Type 0
   Lasts u w = has_inside u w ≡ true → (u +ℤ gap) ≤ℤ w.end
 
   joined_lasts : (t u : ℤ) (ws : List Window) → AllByRecursion (Lasts u) ws → list_any (has_inside u) ws ≡ true → (u +ℤ gap) ≤ℤ (session_of gap t ws).end
@@ -127,7 +127,7 @@ module _ (gap : ℤ) (long : pos 1 ≤ℤ gap) where
   not_after : (t : ℤ) (w : Window) → starts_from (t +ℤ gap) w ≡ true → Lasts t w
   not_after t w begun inside = absurd (before_start t w.start long (begun_from (t +ℤ gap) w begun) (inside_is t w inside).0)
 
-  all_last : (ts : List ℤ) → AllByRecursion (λ u. AllByRecursion (Lasts u) (sessions gap ts)) ts
+  pub all_last : (ts : List ℤ) → AllByRecursion (λ u. AllByRecursion (Lasts u) (sessions gap ts)) ts
   all_last [] = tt
   all_last (t ∷ ts) =
       let ws : List Window = sessions gap ts in
@@ -243,7 +243,7 @@ marked q (e ∷ past) =
     (all-each (AtMost (mark q past)) (AtMost (mark q (e ∷ past))) (selected q past) (λ d h. up_to d.mark (mark q past) (mark q (e ∷ past)) h rises) (marked q past))
 
 -- the times of a key, record by record
-of_times : (P : ℤ → Type 0) (key : ℕ) (ds : List Datum) → AllByRecursion P (map (λ d. d.time) (of_key key ds)) → AllByRecursion (λ d. nat_eq d.key key ≡ true → P d.time) ds
+pub of_times : (P : ℤ → Type 0) (key : ℕ) (ds : List Datum) → AllByRecursion P (map (λ d. d.time) (of_key key ds)) → AllByRecursion (λ d. nat_eq d.key key ≡ true → P d.time) ds
 of_times P key [] each = tt
 of_times P key (d ∷ ds) each =
     elim (nat_eq d.key key) as (λ b. AllByRecursion P (map (λ (e : Datum). e.time) (cond b (d ∷ of_key key ds) (of_key key ds))) → (b ≡ true → P d.time) × AllByRecursion (λ e. nat_eq e.key key ≡ true → P e.time) ds) [
@@ -251,7 +251,7 @@ of_times P key (d ∷ ds) each =
       | false ↦ λ each. ((λ h. absurd (true≢false (sym h))), of_times P key ds each)
     ] each
 
-each_own : (Q : Datum → Datum → Type 0) (ds : List Datum) → ((d : Datum) → AllByRecursion (Q d) ds) → AllByRecursion (λ d. Q d d) ds
+pub each_own : (Q : Datum → Datum → Type 0) (ds : List Datum) → ((d : Datum) → AllByRecursion (Q d) ds) → AllByRecursion (λ d. Q d d) ds
 each_own Q [] f = tt
 each_own Q (d ∷ ds) f = ((f d).0, each_own Q ds (λ e. (f e).1))
 

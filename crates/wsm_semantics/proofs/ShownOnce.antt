@@ -61,7 +61,7 @@ new_session q timely gap is long past k t vs taken selects p placed away =
     (λ others. among_places q gap is long past p ∙ (and_parts _ _ others).1)
     (or_cases _ _ (sym (places_more q gap is long past d prompt (omega arith) (Record (Some k) t vs) refl (selects_one q past k t vs taken selects) p) ∙ placed))
 
-new_have : (q : Query) → IsShape q.shape → SessionsByEvent q → (shape : Shape) → q.shape ≡ shape → NewHaveRecord q
+pub new_have : (q : Query) → IsShape q.shape → SessionsByEvent q → (shape : Shape) → q.shape ≡ shape → NewHaveRecord q
 new_have q ok timely (Fixed size) is = new_assigned q ok (subst IsAssigned (sym is) tt)
 new_have q ok timely (Sliding size period) is = new_assigned q ok (subst IsAssigned (sym is) tt)
 new_have q ok timely (Session gap) is = new_session q timely gap is (gap_is_long q gap is ok)

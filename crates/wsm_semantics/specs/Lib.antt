@@ -29,3 +29,7 @@ pub mod FromWatermarkRows
 pub mod FromKept
 pub mod Needed
 pub mod NeededRows
+pub mod Amounts
+pub mod Deliveries
+pub mod Invoice
+pub mod InvoiceRows

@@ -18,7 +18,7 @@ use Rattle.wsm_semantics.specs.declared.out_row.OutRow.TheVariants.{Pane, Retrac
 use Rattle.wsm_semantics.specs.Query.{Datum, Query}
 use Rattle.wsm_semantics.specs.Lines.{Row, Line, Out, Faulty, Refused, End, all_lines}
 
-abbrev first_value : List Value → ℤ
+abbrev pub first_value : List Value → ℤ
 first_value (Int n ∷ vs) = n
 first_value _ = pos 0
 

@@ -21,6 +21,9 @@ ghost use Rattle.wsm_semantics.specs.ByNumber.{Numbers, AreNumbers, SameByNumber
 ghost use Rattle.wsm_semantics.specs.FromWatermark.{Stays, whole, rest, Times, LeavesOut, begun_at, BeginAlike, HasNoSessions, IsSettled, PartsNoSession, dropped_times, MayLeaveOut, SameAfter, SameRowsAfter, SameBeyond, SameRowsBeyond, SameOnceSettled};
 ghost use Rattle.wsm_semantics.specs.Kept.{kept};
 ghost use Rattle.wsm_semantics.specs.Needed.{IsOfLive, needed};
+ghost use Rattle.wsm_semantics.specs.Amounts.{Amount, AddsAmounts, AmountsAddUp};
+ghost use Rattle.wsm_semantics.specs.Deliveries.{Delivery, AreTimed, PassesAlike};
+ghost use Rattle.wsm_semantics.specs.Invoice.{Invoices};
 ghost use Rattle.wsm_semantics.specs.ByKey.{Keys, others, HasRoom, IgnoresTurns, ByKey, RowsByKey, EachOnce, StreamsWrite, PartsAddUp, NumbersAddUp, SameByRecords};
 
 /// A replay that goes by what it keeps of the held panes alone, event by event, keeps what the history
@@ -146,4 +149,24 @@ pub fn needed_alone()
     ensures live { (q : Query) → IsShape q.shape → (past : List Event) → AllByRecursion (IsOfLive q past) (selected q past) }
     ensures room { (q : Query) (past events : List Event) → HasRoom q (events ++ past) → HasRoom q (events ++ needed q past) }
     ensures verdict { (q : Query) (past events : List Event) (e : Event) → HasRoom q (e ∷ events ++ past) → verdict_on q (events ++ needed q past) e ≡ verdict_on q (events ++ past) e }
+{}
+
+/// Where panes discard what they showed, a column that adds up comes, over all rows of some windows, to what the records
+/// of these windows come to, once the windows were dropped: of one window, of those that begin in a span, of a span of
+/// fixed ones, and of a span of time that cuts no session. Which firings told of them, and when, is of no account.
+pub fn amounts_add_up()
+    ensures { (q : Query) → IsShape q.shape → SessionsByEvent q → q.mode ≡ Discarding → q.form ≡ Panes → (c : ℕ) (amount : Amount) → AddsAmounts q c amount → AmountsAddUp q c amount }
+{}
+
+/// Of deliveries that come at least once each passes once where identifiers are remembered for ever. Where one is
+/// forgotten as soon as a record of its first time is late, a double with no later time that passes is late too: the
+/// watermark, all verdicts and the selected records are the same.
+pub fn passes_once()
+    ensures { (q : Query) → IsShape q.shape → (time_of : ℕ → ℤ) (ds : List Delivery) → AreTimed time_of ds → PassesAlike q ds }
+{}
+
+/// So where each record is delivered at least once and taken when it first comes, what is written of a span of time is
+/// what its records come to: each once, in whatever order they came, and however often.
+pub fn invoice()
+    ensures { (q : Query) → IsShape q.shape → SessionsByEvent q → q.mode ≡ Discarding → q.form ≡ Panes → (c : ℕ) (amount : Amount) → AddsAmounts q c amount → Invoices q c amount }
 {}
