@@ -1,5 +1,5 @@
 -- What holds of each part, where the parts are gone through one by one.
-use Rattle.std.proofs.Common.{◌≡◌, ◌≢◌, ◌+◌, ◌<◌, ◌≤◌, ◌∷◌, ◌++◌, [], ℕ, List, Option, Some, refl, sym, subst, inl, inr, arith, length, Bool, true}
+use Rattle.std.proofs.Common.{◌≡◌, ◌≢◌, ◌+◌, ◌<◌, ◌≤◌, ◌∷◌, ◌++◌, [], ℕ, List, Option, Some, refl, sym, subst, inl, inr, arith, length, Bool, true, false, Ok, Err, ◌⊎◌}
 use Rattle.std.specs.Prelude.{slice_get, slice_set}
 use Rattle.std.specs.Io.KnownBytes.{Appends}
 use Rattle.std.proofs.lemmas.Bool.{cases_lt, eq-eqb, ne_eqb}
@@ -7,9 +7,9 @@ use Rattle.std.proofs.lemmas.Option.{slice_get_within}
 use Rattle.wsm_csv.specs.Device.{TakesPart}
 use Rattle.wsm_csv.proofs.Written.{TakesPart-all}
 use Rattle.wsm_deal.specs.PartText.{part_text}
-use Rattle.wsm_deal.specs.Parts.{Befores, Hands, Has, SomeFailed, one_more_for}
+use Rattle.wsm_deal.specs.Parts.{Befores, Hands, Has, NoneFailed, SomeFailed, one_more_for}
 use Rattle.wsm_deal.specs.declared.part.Part.{Part}
-use Rattle.wsm_deal.proofs.Lists.{at_set, set_there}
+use Rattle.wsm_deal.proofs.Lists.{at_push, at_set, set_there}
 use Rattle.wsm_deal.proofs.PartTexts.{Has-part, part-longer}
 
 -- each element has what is said of its place
@@ -21,6 +21,13 @@ pub each_set : {A : Type 0} (P Q : ℕ → A → Type 0) (xs : List A) (i : ℕ)
 each_set P Q xs i y each here others k p at = elim (at_set xs i k y p at) [
   | inl (same, is) ↦ subst (λ (j : ℕ). Q j p) (sym same) (subst (λ (q : _). Q i q) (sym is) here)
   | inr (other, is) ↦ others k p other (each k p is)
+]
+
+-- one element is put behind the others
+pub each_push : {A : Type 0} (P : A → Type 0) (xs ys : List A) (y : A) → ys ≡ xs ++ y ∷ [] → EachAt (λ _ p. P p) xs → P y → EachAt (λ _ p. P p) ys
+each_push P xs ys y is each here k p at = elim (at_push xs k y p (subst (λ (zs : List _). slice_get zs k ≡ Some p) is at)) [
+  | inl same ↦ subst P (sym same) here
+  | inr before ↦ each k p before
 ]
 
 -- what holds of the first elements, and of the rest
@@ -47,6 +54,31 @@ first_broken P Q R xs i y each here first then =
 -- the part that is put anew is one whose device has failed
 pub some_set : {D : Type 0} (failed : D → Bool) (parts : List (Part D)) (i : ℕ) (p : Part D) → i < length parts → failed p.out ≡ true → SomeFailed failed (slice_set parts i p)
 some_set failed parts i p within is = (i, p, set_there parts i p within, is)
+
+-- its device works, as those of the others do
+pub set_works : {D : Type 0} (failed : D → Bool) (parts : List (Part D)) (i : ℕ) (p : Part D) → NoneFailed failed parts → failed p.out ≡ false → NoneFailed failed (slice_set parts i p)
+set_works {D} failed parts i p works here = each_set (λ (k : ℕ) (q : Part D). failed q.out ≡ false) (λ (k : ℕ) (q : Part D). failed q.out ≡ false) parts i p works here (λ k q other h. h)
+
+-- what the first devices took has left, and that of one more
+pub set_flushed : {D : Type 0} (flushed : D → Bool) (parts : List (Part D)) (i : ℕ) (p : Part D) → ((k : ℕ) (q : Part D) → slice_get parts k ≡ Some q → k < i → flushed q.out ≡ true) → flushed p.out ≡ true
+    → (k : ℕ) (q : Part D) → slice_get (slice_set parts i p) k ≡ Some q → k < i + 1 → flushed q.out ≡ true
+set_flushed {D} flushed parts i p first here =
+    each_set (λ (k : ℕ) (q : Part D). k < i → flushed q.out ≡ true) (λ (k : ℕ) (q : Part D). k < i + 1 → flushed q.out ≡ true) parts i p first (λ lt. here)
+    (λ k q other h lt. h (omega (arith, lt, other)))
+
+-- or its failure is told
+pub set_told : {D : Type 0} (failed : D → Bool) (parts : List (Part D)) (i : ℕ) (p : Part D) {T : Type 0} → NoneFailed failed parts → T ⊎ (failed p.out ≡ false) → T ⊎ NoneFailed failed (slice_set parts i p)
+set_told failed parts i p works (inl told) = inl told
+set_told failed parts i p works (inr here) = inr (set_works failed parts i p works here)
+
+-- a call that was done told no failure
+pub held : {T E P : Type 0} (v : T) (e : E) → (Ok v ≡ Err e) ⊎ P → P
+held v e (inl told) = cc
+held v e (inr p) = p
+
+-- where each device works none has failed
+pub none_some : {D : Type 0} (failed : D → Bool) (parts : List (Part D)) → NoneFailed failed parts → SomeFailed failed parts → ⊥
+none_some failed parts works (k, p, at, is) = let works_here = works k p at in cc
 
 module _ {D : Type 0} (taken : D → Option (List ℕ)) (olds : Befores) (hands : Hands) where
   -- the part has its rows

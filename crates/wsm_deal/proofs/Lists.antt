@@ -1,5 +1,5 @@
 -- What stands in a list in which one element was put anew.
-use Rattle.std.proofs.Common.{◌≡◌, ◌≢◌, ◌<◌, ◌∙◌, ◌∷◌, get_or, length, [], ℕ, zero, suc, List, Some, refl, sym, ap, arith, inl, inr, ◌⊎◌}
+use Rattle.std.proofs.Common.{◌≡◌, ◌≢◌, ◌<◌, ◌∙◌, ◌∷◌, ◌++◌, get_or, length, [], ℕ, zero, suc, List, Some, refl, sym, ap, arith, inl, inr, ◌⊎◌}
 use Rattle.std.specs.Prelude.{slice_get, slice_set}
 use Rattle.std.proofs.lemmas.Option.{slice_get-get_or}
 
@@ -17,6 +17,13 @@ pub set_there : {A : Type 0} (xs : List A) (i : ℕ) (y : A) → i < length xs �
 set_there [] i y within = absurd (omega (arith, within))
 set_there (x ∷ xs) zero y within = refl
 set_there (x ∷ xs) (suc i) y within = set_there xs i y (omega (arith, within))
+
+-- what stands in a list behind which one element was put
+pub at_push : {A : Type 0} (xs : List A) (k : ℕ) (y p : A) → slice_get (xs ++ y ∷ []) k ≡ Some p → (p ≡ y) ⊎ (slice_get xs k ≡ Some p)
+at_push [] zero y p e = inl cc
+at_push [] (suc k) y p e = cc
+at_push (x ∷ xs) zero y p e = inr e
+at_push (x ∷ xs) (suc k) y p e = at_push xs k y p e
 
 -- the element that a loop has in hand
 pub there : {A : Type 0} (xs : List A) (i : ℕ) (x : A) → i < length xs → x ≡ get_or xs i x → slice_get xs i ≡ Some x

@@ -1,11 +1,11 @@
 -- Texts of keys, and what they come to.
-use Rattle.std.specs.Prelude.{◌≡◌, ℕ, [], ◌∷◌, map, Ok, Err, codes, refl}
+use Rattle.std.specs.Prelude.{◌≡◌, ℕ, List, [], ◌∷◌, map, None, Ok, Err, codes, refl}
 use Rattle.wsm_record.specs.Name.{is_reserved}
 use Rattle.wsm_deal.specs.Deal.{Sharing}
-use Rattle.wsm_deal.specs.Keys.{keys_a_part, keys_behind, keys_of_text, lines_of, sharing_of}
+use Rattle.wsm_deal.specs.Keys.{keys_a_part, keys_behind, keys_of_text, lines_of, sharing_for, sharing_of}
 use Rattle.wsm_deal.specs.PartCount.{part_count}
 use Rattle.wsm_deal.specs.Runs.{block_of}
-use Rattle.wsm_deal.specs.declared.shares.SharesRefusal.TheVariants.{BadName, DuplicateName, NoNames, TooFewParts, TooManyParts}
+use Rattle.wsm_deal.specs.declared.shares.SharesRefusal.TheVariants.{BadName, BadNumber, DuplicateName, NoNames, TooFewParts, TooManyParts}
 
 abbrev five : Sharing
 five = record { names = codes "e" ∷ codes "d" ∷ codes "c" ∷ codes "b" ∷ codes "a" ∷ []; block = 2 }
@@ -49,6 +49,11 @@ a_name_again = refl
 no_line : sharing_of [] 3 ≡ Err NoNames
 unfolding lines_of keys_behind
 no_line = refl
+
+-- the faults of keys come in front of that of a number that isn't known
+faults_first : map (λ (text : List ℕ). sharing_for text None) (codes "k1\n3k\n" ∷ [] ∷ codes "k1\n" ∷ []) ≡ Err (BadName 2) ∷ Err NoNames ∷ Err BadNumber ∷ []
+unfolding lines_of keys_behind is_reserved
+faults_first = refl
 
 -- a thousand keys are the most of a part, and five keys in blocks of two fill three parts
 parts_for_keys : map (λ (parts : ℕ). keys_a_part 2001 parts) (2 ∷ 3 ∷ []) ≡ Err (TooFewParts 3) ∷ Ok 667 ∷ []

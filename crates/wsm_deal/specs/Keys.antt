@@ -1,11 +1,11 @@
 -- The keys of a text, and how they are dealt to parts.
-use Rattle.std.specs.Prelude.{ℕ, ◌+◌, ◌==◌, nat_lt, List, [], ◌∷◌, ◌++◌, length, Result, Ok, Err, if◌then◌else◌}
+use Rattle.std.specs.Prelude.{ℕ, ◌+◌, ◌==◌, nat_lt, List, [], ◌∷◌, ◌++◌, length, Option, Some, None, Result, Ok, Err, if◌then◌else◌}
 use Rattle.std.specs.Int.{div_ceil}
 use Rattle.wsm_record.specs.Name.{is_among, is_name}
 use Rattle.wsm_record.specs.declared.limits.TheConstants.{MAX_NAMES}
 use Rattle.wsm_deal.specs.Deal.{Sharing}
 use Rattle.wsm_deal.specs.declared.shares.SharesRefusal.{SharesRefusal}
-use Rattle.wsm_deal.specs.declared.shares.SharesRefusal.TheVariants.{BadName, DuplicateName, NoNames, TooFewParts, TooManyParts}
+use Rattle.wsm_deal.specs.declared.shares.SharesRefusal.TheVariants.{BadName, BadNumber, DuplicateName, NoNames, TooFewParts, TooManyParts}
 
 -- lines with a byte more in front of the first
 abbrev pub before_lines : ℕ → List (List ℕ) → List (List ℕ)
@@ -46,3 +46,14 @@ dealt_keys (Err refusal) parts = Err refusal
 -- the keys of a text, in blocks for so many parts
 abbrev pub sharing_of : List ℕ → ℕ → Result Sharing SharesRefusal
 sharing_of text parts = dealt_keys (keys_of_text text) parts
+
+-- why keys are dealt to no parts where their number isn't known: by a fault of their own, or for want of it
+abbrev pub refusal_of : Result (List (List ℕ)) SharesRefusal → SharesRefusal
+refusal_of (Ok []) = NoNames
+refusal_of (Ok (key ∷ keys)) = BadNumber
+refusal_of (Err refusal) = refusal
+
+-- the same for so many parts as are known
+abbrev pub sharing_for : List ℕ → Option ℕ → Result Sharing SharesRefusal
+sharing_for text (Some parts) = sharing_of text parts
+sharing_for text None = Err (refusal_of (keys_of_text text))

@@ -1,5 +1,5 @@
 -- What the parts hold and were given, of the rows that were dealt to them.
-use Rattle.std.specs.Prelude.{◌≡◌, ◌==◌, ℕ, Bool, true, List, [], ◌∷◌, ◌++◌, Option, Some, slice_get, if◌then◌else◌}
+use Rattle.std.specs.Prelude.{◌≡◌, ◌==◌, ℕ, Bool, true, false, List, [], ◌∷◌, ◌++◌, Option, Some, slice_get, if◌then◌else◌}
 use Rattle.std.specs.Io.Buffered.{reader_remaining}
 use Rattle.std.specs.Io.KnownBytes.{Appends}
 use Rattle.wsm_csv.specs.Device.{TakesPart}
@@ -49,6 +49,18 @@ EachBegan taken olds hands parts = (k : ℕ) (p : _) → slice_get parts k ≡ S
 -- what takes one of the parts has failed
 abbrev pub SomeFailed : {D : Type 0} → (D → Bool) → List (Part D) → Type 0
 SomeFailed failed parts = (k : ℕ) × (p : _) × slice_get parts k ≡ Some p × failed p.out ≡ true
+
+-- what takes any of the parts works
+abbrev pub NoneFailed : {D : Type 0} → (D → Bool) → List (Part D) → Type 0
+NoneFailed failed parts = (k : ℕ) (p : _) → slice_get parts k ≡ Some p → failed p.out ≡ false
+
+-- all that each device took has left
+abbrev pub EachFlushed : {D : Type 0} → (D → Bool) → List (Part D) → Type 0
+EachFlushed flushed parts = (k : ℕ) (p : _) → slice_get parts k ≡ Some p → flushed p.out ≡ true
+
+-- no row was dealt to any of the parts
+abbrev pub AreNew : {D : Type 0} → (D → Option (List ℕ)) → List (Part D) → Type 0
+AreNew taken parts = (k : ℕ) (p : _) → slice_get parts k ≡ Some p → (old : Option (List ℕ)) × Has taken old [] p
 
 -- one row more for each part
 abbrev pub one_more_each : Hands → List (List ℕ) → Hands

@@ -1,10 +1,10 @@
 //! Dealing the rows of a reader.
 
-ghost use Rattle.std.specs.Prelude.{◌≡◌, ◌≢◌, ℕ, List, [], Option, Err, IfOk, IfErr, OnErr, OnOk};
+ghost use Rattle.std.specs.Prelude.{◌≡◌, ◌≢◌, ◌⊎◌, ◌++◌, ◌∷◌, ℕ, List, [], Option, Err, IfOk, IfErr, OnErr, OnOk, false, map};
 ghost use Rattle.csv.specs.Records.{fields_of};
 ghost use Rattle.wsm_csv.specs.Records.{AreAll};
 ghost use Rattle.wsm_csv.specs.Rows.{Follows, error_of, read_end};
-ghost use Rattle.wsm_deal.specs.Parts.{Befores, Dealt, EachBegan, EachHas, EachTook, EndsEarly, Hands, SomeFailed, bytes_of, hands_of, one_more_each, one_more_for, with_row};
+ghost use Rattle.wsm_deal.specs.Parts.{AreNew, Befores, Dealt, EachBegan, EachFlushed, EachHas, EachTook, EndsEarly, Hands, NoneFailed, SomeFailed, bytes_of, hands_of, one_more_each, one_more_for, out_of, with_row};
 
 use crate::ahead::Ahead;
 use crate::part::Part;
@@ -12,7 +12,7 @@ use crate::row_text::add_row;
 use crate::shared_text::block_of;
 use crate::shares::{Goal, Shares};
 use csv::ByteRecord;
-use std::alloc::AllocError;
+use std::alloc::{AllocError, Global};
 use std::io::Read;
 use wsm_csv::{Device, DeviceFault, ReadEnd, Rows};
 
@@ -63,29 +63,56 @@ impl From<ReadEnd> for DealEnd {
     }
 }
 
-/// Deals the rows of a reader to parts: a record to the part of its key, a watermark to each, and what is
-/// neither to the first. What was dealt is handed on before more bytes are asked of the input, and where
-/// 64 KiB of it are kept for a part. A row for a part that isn't there is dropped.
+/// Deals the rows of a reader, of which none was read, to parts that are new ([`add_part`]): a record to the
+/// part of its key, a watermark to each, and what is neither to the first. What was dealt is handed on before
+/// more bytes are asked of the input, and where 64 KiB of it are kept for a part; at last each device is
+/// flushed. A row for a part that isn't there is dropped.
 ///
 /// # Errors
 ///
 /// After an error each device took a beginning of the text of the rows that were dealt to its part.
 /// [`DealEnd::ReadFailed`] comes only where the error of the rows is of a read, and
-/// [`DealEnd::WriteFailed`] only where what takes one of the parts has failed.
+/// [`DealEnd::WriteFailed`] exactly where what takes one of the parts has failed.
 pub fn deal<R: Read + Drop, D: Device>(
     shares: &Shares,
     rows: &mut Rows<Ahead<R>>,
     parts: &mut [Part<D>],
 ) -> Result<(), DealEnd>
+    requires fresh { (known : Option (List ℕ)) × Follows (bytes_of R.remaining) known [] rows.old }
+    requires new { AreNew D.taken parts.old }
+    requires works { NoneFailed D.has_failed parts.old }
     ensures dealt { (known : Option (List ℕ)) (olds : Befores) → Follows (bytes_of R.remaining) known [] rows.old → EachHas D.taken olds (hands_of shares.now []) parts.old →
         IfOk result (λ _. (cells : List (List (List ℕ))) × Dealt D.taken known shares.now olds cells parts.new) }
     ensures ends_early { (known : Option (List ℕ)) (olds : Befores) → Follows (bytes_of R.remaining) known [] rows.old → EachHas D.taken olds (hands_of shares.now []) parts.old →
         IfErr result (λ _. (cells : List (List (List ℕ))) × EndsEarly D.taken known shares.now olds cells parts.new) }
     ensures read_failed { result ≡ Err DealEnd.ReadFailed → read_end (error_of rows.new) ≡ ReadEnd.Failed }
+    ensures flushed { OnOk result (EachFlushed D.is_flushed parts.new) }
     ensures write_failed { result ≡ Err DealEnd.WriteFailed → SomeFailed D.has_failed parts.new }
+    ensures device { SomeFailed D.has_failed parts.new → result ≡ Err DealEnd.WriteFailed }
 {
     deal_rows(shares, rows, parts)?;
     finish(parts)?;
+    Ok(())
+}
+
+/// Puts a part to which no row was dealt behind others of that kind.
+///
+/// # Errors
+///
+/// Memory was refused.
+pub fn add_part<D: Device + Drop>(
+    alloc: Global,
+    parts: &mut Vec<Part<D>>,
+    out: D,
+) -> Result<(), AllocError>
+    requires new { AreNew D.taken parts.old.items }
+    requires works { NoneFailed D.has_failed parts.old.items }
+    requires device { D.has_failed out ≡ false }
+    ensures devices { OnOk result (map out_of parts.new.items ≡ map out_of parts.old.items ++ out ∷ []) }
+    ensures new { OnOk result (AreNew D.taken parts.new.items) }
+    ensures works { OnOk result (NoneFailed D.has_failed parts.new.items) }
+{
+    parts.push(Part::new(alloc, out))?;
     Ok(())
 }
 
@@ -95,12 +122,14 @@ fn deal_rows<R: Read + Drop, D: Device>(
     rows: &mut Rows<Ahead<R>>,
     parts: &mut [Part<D>],
 ) -> Result<(), DealEnd>
+    requires works { NoneFailed D.has_failed parts.old }
     ensures dealt { (known : Option (List ℕ)) (olds : Befores) → Follows (bytes_of R.remaining) known [] rows.old → EachHas D.taken olds (hands_of shares.now []) parts.old →
         IfOk result (λ _. (cells : List (List (List ℕ))) × AreAll known cells × EachHas D.taken olds (hands_of shares.now cells) parts.new) }
     ensures ends_early { (known : Option (List ℕ)) (olds : Befores) → Follows (bytes_of R.remaining) known [] rows.old → EachHas D.taken olds (hands_of shares.now []) parts.old →
         IfErr result (λ _. (cells : List (List (List ℕ))) × EndsEarly D.taken known shares.now olds cells parts.new) }
     ensures read_failed { result ≡ Err DealEnd.ReadFailed → read_end (error_of rows.new) ≡ ReadEnd.Failed }
     ensures write_failed { result ≡ Err DealEnd.WriteFailed → SomeFailed D.has_failed parts.new }
+    ensures works { (result ≡ Err DealEnd.WriteFailed) ⊎ NoneFailed D.has_failed parts.new }
 {
     let mut text = Vec::new(shares.allocator());
     while rows.advance()? {
@@ -115,7 +144,9 @@ fn pass_on<R: Read + Drop, D: Device>(
     rows: &Rows<Ahead<R>>,
     parts: &mut [Part<D>],
 ) -> Result<(), DeviceFault>
+    requires works { NoneFailed D.has_failed parts.old }
     ensures kept { (olds : Befores) (hands : Hands) → EachHas D.taken olds hands parts.old → OnOk result (EachHas D.taken olds hands parts.new) }
+    ensures works { OnOk result (NoneFailed D.has_failed parts.new) }
     ensures began { (olds : Befores) (hands : Hands) → EachHas D.taken olds hands parts.old → OnErr result (EachBegan D.taken olds hands parts.new) }
     ensures fails { OnErr result (SomeFailed D.has_failed parts.new) }
 {
@@ -133,10 +164,12 @@ fn deal_row<D: Device>(
     parts: &mut [Part<D>],
     text: &mut Vec<u8>,
 ) -> Result<(), DealEnd>
+    requires works { NoneFailed D.has_failed parts.old }
     ensures dealt { (olds : Befores) (rows : List (List (List ℕ))) → EachHas D.taken olds (hands_of shares.now rows) parts.old → OnOk result (EachHas D.taken olds (hands_of shares.now (with_row rows (fields_of row.now))) parts.new) }
     ensures began { (olds : Befores) (rows : List (List (List ℕ))) → EachHas D.taken olds (hands_of shares.now rows) parts.old → OnErr result (EachBegan D.taken olds (hands_of shares.now (with_row rows (fields_of row.now))) parts.new) }
     ensures reads_none { result ≢ Err DealEnd.ReadFailed }
     ensures write_failed { result ≡ Err DealEnd.WriteFailed → SomeFailed D.has_failed parts.new }
+    ensures works { (result ≡ Err DealEnd.WriteFailed) ⊎ NoneFailed D.has_failed parts.new }
 {
     match shares.goal_of(row) {
         Goal::One(part) => deal_to_one(part, row, parts),
@@ -151,10 +184,12 @@ fn deal_to_one<D: Device>(
     row: &ByteRecord,
     parts: &mut [Part<D>],
 ) -> Result<(), DealEnd>
+    requires works { NoneFailed D.has_failed parts.old }
     ensures dealt { (olds : Befores) (hands : Hands) → EachHas D.taken olds hands parts.old → OnOk result (EachHas D.taken olds (one_more_for part hands (fields_of row.now)) parts.new) }
     ensures began { (olds : Befores) (hands : Hands) → EachHas D.taken olds hands parts.old → OnErr result (EachBegan D.taken olds (one_more_for part hands (fields_of row.now)) parts.new) }
     ensures reads_none { result ≢ Err DealEnd.ReadFailed }
     ensures write_failed { result ≡ Err DealEnd.WriteFailed → SomeFailed D.has_failed parts.new }
+    ensures works { (result ≡ Err DealEnd.WriteFailed) ⊎ NoneFailed D.has_failed parts.new }
 {
     if part < parts.len() {
         parts[part].add(row)?;
@@ -169,10 +204,12 @@ fn deal_to_all<D: Device>(
     parts: &mut [Part<D>],
     text: &mut Vec<u8>,
 ) -> Result<(), DealEnd>
+    requires works { NoneFailed D.has_failed parts.old }
     ensures dealt { (olds : Befores) (hands : Hands) → EachHas D.taken olds hands parts.old → OnOk result (EachHas D.taken olds (one_more_each hands (fields_of row.now)) parts.new) }
     ensures began { (olds : Befores) (hands : Hands) → EachHas D.taken olds hands parts.old → OnErr result (EachBegan D.taken olds (one_more_each hands (fields_of row.now)) parts.new) }
     ensures reads_none { result ≢ Err DealEnd.ReadFailed }
     ensures write_failed { result ≡ Err DealEnd.WriteFailed → SomeFailed D.has_failed parts.new }
+    ensures works { (result ≡ Err DealEnd.WriteFailed) ⊎ NoneFailed D.has_failed parts.new }
 {
     text.clear();
     add_row(row, text)?;
@@ -187,7 +224,9 @@ fn deal_to_all<D: Device>(
 // Gives each device the text that it wasn't handed.
 #[inline(never)]
 fn hand_on<D: Device>(parts: &mut [Part<D>]) -> Result<(), DeviceFault>
+    requires works { NoneFailed D.has_failed parts.old }
     ensures kept { (olds : Befores) (hands : Hands) → EachHas D.taken olds hands parts.old → OnOk result (EachHas D.taken olds hands parts.new) }
+    ensures works { OnOk result (NoneFailed D.has_failed parts.new) }
     ensures began { (olds : Befores) (hands : Hands) → EachHas D.taken olds hands parts.old → OnErr result (EachBegan D.taken olds hands parts.new) }
     ensures fails { OnErr result (SomeFailed D.has_failed parts.new) }
 {
@@ -199,7 +238,10 @@ fn hand_on<D: Device>(parts: &mut [Part<D>]) -> Result<(), DeviceFault>
 
 // Gives each device the text that it wasn't handed, and has all that it took leave.
 fn finish<D: Device>(parts: &mut [Part<D>]) -> Result<(), DeviceFault>
+    requires works { NoneFailed D.has_failed parts.old }
     ensures took { (olds : Befores) (hands : Hands) → EachHas D.taken olds hands parts.old → OnOk result (EachTook D.taken olds hands parts.new) }
+    ensures flushed { OnOk result (EachFlushed D.is_flushed parts.new) }
+    ensures works { OnOk result (NoneFailed D.has_failed parts.new) }
     ensures began { (olds : Befores) (hands : Hands) → EachHas D.taken olds hands parts.old → OnErr result (EachBegan D.taken olds hands parts.new) }
     ensures fails { OnErr result (SomeFailed D.has_failed parts.new) }
 {

@@ -6,7 +6,7 @@
 #![tactic(auto)]
 
 pub use ahead::Ahead;
-pub use dealing::{DealEnd, deal};
+pub use dealing::{DealEnd, add_part, deal};
 pub use part::Part;
 pub use shares::{Shares, SharesRefusal};
 

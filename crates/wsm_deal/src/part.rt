@@ -24,7 +24,7 @@ pub struct Part<D> {
 }
 
 impl<D: Device> Part<D> {
-    ghost use Rattle.std.specs.Prelude.{◌≡◌, ◌≢◌, ◌≤◌, ◌∷◌, ◌++◌, [], ℕ, List, length, take, Option, Err, OnOk, OnErr, true, if◌then◌else◌};
+    ghost use Rattle.std.specs.Prelude.{◌≡◌, ◌≢◌, ◌⊎◌, ◌≤◌, ◌∷◌, ◌++◌, [], ℕ, List, length, take, Option, Err, OnOk, OnErr, true, false, if◌then◌else◌};
     ghost use Rattle.std.specs.Io.KnownBytes.{Appends};
     ghost use Rattle.csv.specs.Records.{fields_of};
     ghost use Rattle.csv.specs.Writing.{default_writer, row_text};
@@ -35,6 +35,7 @@ impl<D: Device> Part<D> {
     /// A part to which no row was dealt.
     pub fn new(alloc: Global, out: D) -> Part<D>
         ensures none { Has D.taken (D.taken out) [] result }
+        ensures device { out_of result ≡ out }
     {
         Part {
             out,
@@ -47,10 +48,12 @@ impl<D: Device> Part<D> {
     /// that has failed.
     #[inline(always)]
     pub(crate) fn add(&mut self, row: &ByteRecord) -> Result<(), DealEnd>
+        requires works { D.has_failed (out_of self.old) ≡ false }
         ensures adds { (old : Option (List ℕ)) (rows : List (List (List ℕ))) → Has D.taken old rows self.old → OnOk result (Has D.taken old (rows ++ fields_of row.now ∷ []) self.new) }
         ensures part { (old : Option (List ℕ)) (rows : List (List (List ℕ))) → Has D.taken old rows self.old → OnErr result (TakesPart old (D.taken (out_of self.new)) (part_text (rows ++ fields_of row.now ∷ []))) }
         ensures reads_none { result ≢ Err DealEnd.ReadFailed }
         ensures write_failed { result ≡ Err DealEnd.WriteFailed → D.has_failed (out_of self.new) ≡ true }
+        ensures works { (result ≡ Err DealEnd.WriteFailed) ⊎ (D.has_failed (out_of self.new) ≡ false) }
     {
         self.keep(row)?;
         if FULL <= self.text.len() {
@@ -66,12 +69,14 @@ impl<D: Device> Part<D> {
         text: &[u8],
         block: &[u8; BLOCK],
     ) -> Result<(), DealEnd>
+        requires works { D.has_failed (out_of self.old) ≡ false }
         requires text { text.now ≡ row_text default_writer (fields_of row.now) }
         requires block { length text.now ≤ BLOCK → take (length text.now) block.now ≡ text.now }
         ensures adds { (old : Option (List ℕ)) (rows : List (List (List ℕ))) → Has D.taken old rows self.old → OnOk result (Has D.taken old (rows ++ fields_of row.now ∷ []) self.new) }
         ensures part { (old : Option (List ℕ)) (rows : List (List (List ℕ))) → Has D.taken old rows self.old → OnErr result (TakesPart old (D.taken (out_of self.new)) (part_text (rows ++ fields_of row.now ∷ []))) }
         ensures reads_none { result ≢ Err DealEnd.ReadFailed }
         ensures write_failed { result ≡ Err DealEnd.WriteFailed → D.has_failed (out_of self.new) ≡ true }
+        ensures works { (result ≡ Err DealEnd.WriteFailed) ⊎ (D.has_failed (out_of self.new) ≡ false) }
     {
         self.keep_text(row, text, block)?;
         if FULL <= self.text.len() {
@@ -122,16 +127,15 @@ impl<D: Device> Part<D> {
 
     /// Gives the device the text that it wasn't handed. An error is answered only where the device has failed.
     pub(crate) fn hand_on(&mut self) -> Result<(), DeviceFault>
+        requires works { D.has_failed (out_of self.old) ≡ false }
         ensures kept { (old : Option (List ℕ)) (rows : List (List (List ℕ))) → Has D.taken old rows self.old → OnOk result (Has D.taken old rows self.new) }
         ensures empty { OnOk result (self.new.text.items ≡ []) }
+        ensures works { OnOk result (D.has_failed (out_of self.new) ≡ false) }
         ensures part { (old : Option (List ℕ)) (rows : List (List (List ℕ))) → Has D.taken old rows self.old → OnErr result (TakesPart old (D.taken (out_of self.new)) (part_text rows)) }
         ensures fails { OnErr result (D.has_failed (out_of self.new) ≡ true) }
     {
         if self.text.is_empty() {
             return Ok(());
-        }
-        if self.out.failed() {
-            return Err(DeviceFault);
         }
         write_out(&mut self.out, &self.text)?;
         self.text.clear();
@@ -141,14 +145,14 @@ impl<D: Device> Part<D> {
     /// Gives the device the text that it wasn't handed, and has all that it took leave. An error is answered
     /// only where the device has failed.
     pub(crate) fn finish(&mut self) -> Result<(), DeviceFault>
+        requires works { D.has_failed (out_of self.old) ≡ false }
         ensures took { (old : Option (List ℕ)) (rows : List (List (List ℕ))) → Has D.taken old rows self.old → OnOk result (Appends old (D.taken (out_of self.new)) (part_text rows)) }
+        ensures flushed { OnOk result (D.is_flushed (out_of self.new) ≡ true) }
+        ensures works { OnOk result (D.has_failed (out_of self.new) ≡ false) }
         ensures part { (old : Option (List ℕ)) (rows : List (List (List ℕ))) → Has D.taken old rows self.old → OnErr result (TakesPart old (D.taken (out_of self.new)) (part_text rows)) }
         ensures fails { OnErr result (D.has_failed (out_of self.new) ≡ true) }
     {
         self.hand_on()?;
-        if self.out.failed() {
-            return Err(DeviceFault);
-        }
         self.out.flush()
     }
 }

@@ -2,7 +2,7 @@
 
 ghost use Rattle.std.specs.Prelude.{◌≡◌, ◌<◌, ◌≤◌, ◌+◌, ◌∷◌, ◌⊎◌, ℕ, List, Err, IfErr, IfOk, Ok, OnOk, length, map};
 ghost use Rattle.std.specs.Int.{div_ceil};
-ghost use Rattle.wsm_deal.specs.Keys.{keys_a_part, keys_behind, keys_of_text, lines_of};
+ghost use Rattle.wsm_deal.specs.Keys.{keys_a_part, keys_behind, keys_of_text, lines_of, refusal_of};
 ghost use Rattle.wsm_deal.specs.KeysText.{keys_text};
 ghost use Rattle.wsm_deal.specs.declared.shares.SharesRefusal.TheVariants as SharesRefusal;
 
@@ -107,7 +107,7 @@ impl Shares {
     ghost use Rattle.std.specs.Prelude.{◌≡◌, ◌<◌, ◌≤◌, ◌∷◌, ◌⊎◌, [], ℕ, List, Err, IfErr, IfOk, IfSome, Ok, Some, bytes_eq, length, map, position, slice_get};
     ghost use Rattle.csv.specs.Records.{fields_of};
     ghost use Rattle.wsm_deal.specs.Deal.{goal_of, names_of, part_of, record_part};
-    ghost use Rattle.wsm_deal.specs.Keys.{sharing_of};
+    ghost use Rattle.wsm_deal.specs.Keys.{sharing_for, sharing_of};
     ghost use Rattle.wsm_deal.specs.KeyGuesses.{worth_of};
     ghost use Rattle.wsm_deal.specs.KeysText.{keys_text};
     ghost use Rattle.wsm_deal.specs.PartCount.{part_count};
@@ -135,6 +135,25 @@ impl Shares {
             block,
             guesses,
         })
+    }
+
+    /// The same where the number of parts may not be known, as where a word is none.
+    ///
+    /// # Errors
+    ///
+    /// The faults of the text come first, then that there is no number, and then those of the number.
+    pub fn for_parts(
+        alloc: Global,
+        text: &[u8],
+        parts: Option<usize>,
+    ) -> Result<Shares, SharesRefusal>
+        ensures shared { IfOk result (λ shares. sharing_for text.now parts ≡ Ok shares) }
+        ensures refused { IfErr result (λ refusal. (refusal ≡ SharesRefusal.Memory) ⊎ (sharing_for text.now parts ≡ Err refusal)) }
+    {
+        match parts {
+            Some(parts) => Shares::of(alloc, text, parts),
+            None => Err(refusal_of(alloc, text)),
+        }
     }
 
     /// What gives the memory of the keys.
@@ -337,6 +356,17 @@ fn names_of(alloc: Global, text: &[u8]) -> Result<IndexSet<Vec<u8>>, SharesRefus
         rest = next;
     }
     Ok(names)
+}
+
+// Why the keys of a text are dealt to no parts, where it isn't known to how many.
+fn refusal_of(alloc: Global, text: &[u8]) -> SharesRefusal
+    ensures { (result ≡ SharesRefusal.Memory) ⊎ (refusal_of (keys_of_text text.now) ≡ result) }
+{
+    match names_of(alloc, text) {
+        Ok(names) if names.is_empty() => SharesRefusal::NoNames,
+        Ok(_) => SharesRefusal::BadNumber,
+        Err(refusal) => refusal,
+    }
 }
 
 // Adds the name of a line to those of the lines before.

@@ -1,24 +1,42 @@
-use Rattle.std.proofs.Common.{◌≡◌, ◌<◌, Some, arith, length, subst}
+use Rattle.std.proofs.Common.{◌≡◌, ◌<◌, Some, arith, false, length, subst}
 use Rattle.std.specs.Prelude.{slice_get}
-use Rattle.wsm_deal.proofs.EachPart.{BeganAt, HasAt, TookAt, first_all, first_broken, first_more, has_began, some_set, took_began}
+use Rattle.std.proofs.lemmas.Option.{slice_get_within}
+use Rattle.wsm_deal.specs.declared.part.Part.{Part}
+use Rattle.wsm_deal.proofs.EachPart.{BeganAt, HasAt, TookAt, first_all, first_broken, first_more, has_began, set_flushed, set_works, some_set, took_began}
 use Rattle.wsm_deal.proofs.Lists.{there}
 use Rattle.wsm_deal.proofs.Outcomes.{on_err}
 use Rattle.wsm_deal.proofs.dealing.finish.Goals as goal
 
+pub finish-requires : goal.finish-requires
+finish-requires g c =
+    let i = c.loop-part.part-index in
+    let within : i < length c.loop-part.parts = omega (arith, c.loop-part-test.true, c.loop-part.auto.parts) in
+    let at : slice_get c.loop-part.parts i ≡ Some c.part-item.result = there c.loop-part.parts i c.part-item.result within c.part-item.is in
+    let works = c.loop-part.invariant.works i c.part-item.result at in
+    record { works = subst (λ (p : Part g.row.D.Denot). g.D.Device.has_failed p.out ≡ false) c.part-item.is works }
+
 pub loop-part-preserved : goal.loop-part-preserved
-loop-part-preserved g c = λ olds hands each.
+loop-part-preserved g c =
     let taken = g.D.Device.taken in
     let i = c.loop-part.part-index in
     let within : i < length c.loop-part.parts = omega (arith, c.loop-part-test.true, c.loop-part.auto.parts) in
     let at : slice_get c.loop-part.parts i ≡ Some c.part-item.result = there c.loop-part.parts i c.part-item.result within c.part-item.is in
-    first_more (TookAt taken olds hands) (HasAt taken olds hands) c.loop-part.parts i c.part-item.result c.finish.new.self at (c.loop-part.invariant olds hands each)
-    (λ has. c.in_ok-finish.ensures.took (olds i) (hands i) (search (has, subst (HasAt taken olds hands i) c.part-item.is has)))
+    record {
+      took = λ olds hands each.
+          first_more (TookAt taken olds hands) (HasAt taken olds hands) c.loop-part.parts i c.part-item.result c.finish.new.self at (c.loop-part.invariant.took olds hands each)
+          (λ has. c.in_ok-finish.ensures.took (olds i) (hands i) (search (has, subst (HasAt taken olds hands i) c.part-item.is has)));
+      flushed = set_flushed g.D.Device.is_flushed c.loop-part.parts i c.finish.new.self c.loop-part.invariant.flushed c.in_ok-finish.ensures.flushed;
+      works = set_works g.D.Device.has_failed c.loop-part.parts i c.finish.new.self c.loop-part.invariant.works c.in_ok-finish.ensures.works;
+    }
+
+pub returns-clause-flushed : goal.returns-clause-flushed
+returns-clause-flushed g c = λ k p at. c.loop-part.invariant.flushed k p at (let within = slice_get_within c.loop-part.parts k p at in omega (arith, within, c.loop-part-test.false, c.loop-part.auto.parts))
 
 pub returns-in_err-finish-clause-began : goal.returns-in_err-finish-clause-began
 returns-in_err-finish-clause-began g c = λ olds hands each.
     let taken = g.D.Device.taken in
     let i = c.loop-part.part-index in
-    let inv = c.loop-part.invariant olds hands each in
+    let inv = c.loop-part.invariant.took olds hands each in
     let within : i < length c.loop-part.parts = omega (arith, c.loop-part-test.true, c.loop-part.auto.parts) in
     let at : slice_get c.loop-part.parts i ≡ Some c.part-item.result = there c.loop-part.parts i c.part-item.result within c.part-item.is in
     on_err c.from_residual.result (first_broken (TookAt taken olds hands) (HasAt taken olds hands) (BeganAt taken olds hands) c.loop-part.parts i c.finish.new.self inv
@@ -26,7 +44,7 @@ returns-in_err-finish-clause-began g c = λ olds hands each.
 
 pub returns-clause-took : goal.returns-clause-took
 returns-clause-took g c = λ olds hands each.
-    first_all (TookAt g.D.Device.taken olds hands) (HasAt g.D.Device.taken olds hands) c.loop-part.parts c.loop-part.part-index (omega (arith, c.loop-part-test.false, c.loop-part.auto.parts)) (c.loop-part.invariant olds hands each)
+    first_all (TookAt g.D.Device.taken olds hands) (HasAt g.D.Device.taken olds hands) c.loop-part.parts c.loop-part.part-index (omega (arith, c.loop-part-test.false, c.loop-part.auto.parts)) (c.loop-part.invariant.took olds hands each)
 
 pub returns-in_err-finish-clause-fails : goal.returns-in_err-finish-clause-fails
 returns-in_err-finish-clause-fails g c =

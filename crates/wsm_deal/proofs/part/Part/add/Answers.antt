@@ -1,4 +1,4 @@
-use Rattle.std.proofs.Common.{◌++◌, ◌∷◌, [], subst, sym}
+use Rattle.std.proofs.Common.{◌∙◌, ◌++◌, ◌∷◌, [], ap, inr, subst, sym}
 use Rattle.csv.specs.Records.{fields_of}
 use Rattle.wsm_csv.specs.Device.{TakesPart}
 use Rattle.wsm_deal.specs.PartText.{part_text}
@@ -15,3 +15,9 @@ returns-in_err-keep-clause-part g c = λ old rows has.
 pub returns-in_err-hand_on-clause-part : goal.returns-in_err-hand_on-clause-part
 returns-in_err-hand_on-clause-part g c = λ old rows has.
     on_err c.from_residual-in_err-hand_on.result (c.in_err-hand_on.ensures.part old (rows ++ fields_of c.args.row.now ∷ []) (c.in_ok-keep.ensures.adds old rows has))
+
+pub hand_on-requires : goal.hand_on-requires
+hand_on-requires g c = record { works = ap g.D.Device.has_failed c.in_ok-keep.ensures.out ∙ c.requires.works }
+
+pub returns-in_err-keep-clause-works : goal.returns-in_err-keep-clause-works
+returns-in_err-keep-clause-works g c = inr (ap g.D.Device.has_failed c.in_err-keep.ensures.out ∙ c.requires.works)

@@ -1,11 +1,8 @@
 use Rattle.wsm_csv.proofs.Written.{Keeps-Appends, TakesPart-all}
 use Rattle.wsm_deal.specs.PartText.{part_text}
 use Rattle.wsm_deal.proofs.Outcomes.{on_err, on_ok}
-use Rattle.wsm_deal.proofs.PartTexts.{Has-all, Has-part}
+use Rattle.wsm_deal.proofs.PartTexts.{Has-all}
 use Rattle.wsm_deal.proofs.part.Part.finish.Goals as goal
-
-pub returns-then-failed-clause-part : goal.returns-then-failed-clause-part
-returns-then-failed-clause-part g c = λ old rows has. Has-part g.D.Device.taken old rows c.hand_on.new.self (c.in_ok-hand_on.ensures.kept old rows has)
 
 pub returns-clause-took : goal.returns-clause-took
 returns-clause-took g c = λ old rows has.

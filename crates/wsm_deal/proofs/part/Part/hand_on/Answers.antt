@@ -2,11 +2,8 @@ use Rattle.std.proofs.Common.{List, ℕ, refl, subst}
 use Rattle.std.specs.Io.KnownBytes.{Appends}
 use Rattle.wsm_csv.specs.Device.{TakesPart}
 use Rattle.wsm_deal.proofs.Outcomes.{on_err}
-use Rattle.wsm_deal.proofs.PartTexts.{Has-broken, Has-handed, Has-part}
+use Rattle.wsm_deal.proofs.PartTexts.{Has-broken, Has-handed}
 use Rattle.wsm_deal.proofs.part.Part.hand_on.Goals as goal
-
-pub returns-then-failed-clause-part : goal.returns-then-failed-clause-part
-returns-then-failed-clause-part g c = λ old rows has. Has-part g.D.Device.taken old rows c.args.self.now has
 
 pub returns-in_err-write_out-clause-part : goal.returns-in_err-write_out-clause-part
 returns-in_err-write_out-clause-part g c = λ old rows has.
