@@ -1,0 +1,91 @@
+-- What can't count at a watermark can't count at a later one: what is kept of it is of no account.
+use Rattle.std.proofs.Common.{◌≡◌, ℕ, Bool, true, false, ◌&&◌, ◌||◌, cond, not, List, [], ◌∷◌, ℤ, ◌≤ℤ◌, Result, Ok, Err, refl, sym, ap, ◌∙◌, arith}
+use Rattle.std.proofs.Math.Bool.{and-false}
+use Rattle.std.proofs.lemmas.Bool.{true≢false}
+use Rattle.std.proofs.lemmas.Int.{ints}
+use Rattle.std.specs.Prelude.{OnOk, bytes_eq, filter}
+use Rattle.wsm_windows.specs.declared.window.Shape.{Shape}
+use Rattle.wsm_admission.specs.declared.clock.Clock.{Clock}
+use Rattle.wsm_admission.specs.Clock.{is_late}
+use Rattle.wsm_semantics.proofs.Deliveries.{prompt_sooner}
+use Rattle.wsm_semantics.proofs.Each.{all-any, and_of, each_fails, filter-each, filter-filter, list_any-filter, list_any-none}
+use Rattle.wsm_semantics.proofs.Lists.{all-each}
+use Rattle.wsm_doubles.specs.Memory.{Kept, Memory, Recalls, is_known, knows, least_room, live, may_count, remembered}
+
+not_so : (b : Bool) → not b ≡ true → b ≡ false
+not_so true h = absurd (true≢false (sym h))
+not_so false h = refl
+
+at_most : (w : ℤ) → w ≤ℤ w
+at_most w = omega (arith, ints)
+
+in_turn : (u v w : ℤ) → u ≤ℤ v → v ≤ℤ w → u ≤ℤ w
+in_turn u v w h k = omega (arith, ints)
+
+from_then : (w mark later : ℤ) → w ≡ mark → mark ≤ℤ later → w ≤ℤ later
+from_then w mark later same rises = omega (arith, ints)
+
+-- a lemma for each test, of a call that may fail
+each_ok : {A E : Type 0} {X : Type 0} (r : Result A E) (N M : X → Type 0) (P : Type 0) → ((x : X) → N x → OnOk r (M x)) → (((x : X) → N x → M x) → P) → OnOk r P
+each_ok (Ok a) N M P h f = f h
+each_ok (Err e) N M P h f = tt
+
+module _ (c : Clock) (shape : Shape) where
+  counts_before : (v w : ℤ) → v ≤ℤ w → (k : List ℕ × ℤ) → may_count c shape w k ≡ true → may_count c shape v k ≡ true
+  counts_before v w rises k counts = ap not (prompt_sooner c.from_window shape c.lateness k.1 v w rises (not_so (is_late c shape w k.1) counts))
+
+  pub live-live : (v w : ℤ) → v ≤ℤ w → (memory : Memory) → live c shape w (live c shape v memory) ≡ live c shape w memory
+  live-live v w rises memory =
+      filter-filter (may_count c shape w) (may_count c shape v) memory
+      ∙ filter-each (λ k. may_count c shape v k && may_count c shape w k) (may_count c shape w) memory
+      (all-any (λ k. (may_count c shape v k && may_count c shape w k) ≡ may_count c shape w k) (λ k. and_of (may_count c shape v k) (may_count c shape w k) (counts_before v w rises k)) memory)
+
+  -- what isn't known isn't known later
+  unknown_later : (v w : ℤ) → v ≤ℤ w → (i : List ℕ) (memory : Memory) → knows i (live c shape v memory) ≡ false → knows i (live c shape w memory) ≡ false
+  unknown_later v w rises i memory unknown =
+      ap (knows i) (sym (live-live v w rises memory))
+      ∙ list_any-filter (λ k. bytes_eq i k.0) (may_count c shape w) (live c shape v memory)
+      ∙ list_any-none (λ k. may_count c shape w k && bytes_eq i k.0) (live c shape v memory)
+      (all-each (λ k. bytes_eq i k.0 ≡ false) (λ k. (may_count c shape w k && bytes_eq i k.0) ≡ false) (live c shape v memory)
+      (λ k off. ap (λ (b : Bool). may_count c shape w k && b) off ∙ and-false (may_count c shape w k)) (each_fails (λ k. bytes_eq i k.0) (live c shape v memory) unknown))
+
+  pub stays_unknown : (mark later : ℤ) (i : List ℕ) (kept : Kept) → mark ≤ℤ later → is_known c shape mark i kept ≡ false → is_known c shape later i kept ≡ false
+  stays_unknown mark later i kept rises unknown = unknown_later mark later rises i kept.entries unknown
+
+  -- ---- what is recalled
+
+  pub nothing_yet : (mark : ℤ) → Recalls c shape mark (record { entries = []; room = least_room }) []
+  nothing_yet mark = record { alike = λ later rises i. refl; prompt = refl }
+
+  pub recalls_on : (mark later : ℤ) (kept : Kept) (memory : Memory) → mark ≤ℤ later → Recalls c shape mark kept memory → Recalls c shape later kept (live c shape later memory)
+  recalls_on mark later kept memory rises r = record {
+    alike = λ last on i. r.alike last (in_turn mark later last rises on) i ∙ ap (knows i) (sym (live-live later last on memory));
+    prompt = live-live later later (at_most later) memory;
+  }
+
+  pub answers : (mark : ℤ) (kept : Kept) (memory : Memory) (i : List ℕ) → Recalls c shape mark kept memory → is_known c shape mark i kept ≡ knows i memory
+  answers mark kept memory i r = r.alike mark (at_most mark) i ∙ ap (knows i) r.prompt
+
+  in_front : (i : List ℕ) (b : Bool) (k : List ℕ × ℤ) (xs ys : Memory) → knows i xs ≡ knows i ys → knows i (cond b (k ∷ xs) xs) ≡ knows i (cond b (k ∷ ys) ys)
+  in_front i true k xs ys same = ap (λ (b : Bool). bytes_eq i k.0 || b) same
+  in_front i false k xs ys same = same
+
+  -- a record that passes is taken note of, behind a call that drops what can't count
+  pub noted : {A E : Type 0} (result : Result A E) (mark w : ℤ) (old mid new : Kept) (memory : Memory) (i : List ℕ) (time u : ℤ) → w ≡ mark → u ≡ time → Recalls c shape mark old memory
+      → ((later : ℤ) → w ≤ℤ later → live c shape later mid.entries ≡ live c shape later old.entries)
+      → is_known c shape mark i old ≡ false
+      → ((test : ℤ → Bool) → knows i (filter (λ k. test k.1) mid.entries) ≡ false → OnOk result ((j : List ℕ) → knows j (filter (λ k. test k.1) new.entries) ≡ knows j (filter (λ k. test k.1) ((i, u) ∷ mid.entries))))
+      → OnOk result (Recalls c shape mark new (remembered c shape mark i time memory))
+  noted result mark w old mid new memory i time u then at r stays unknown kept =
+      let same : (later : ℤ) → mark ≤ℤ later → live c shape later mid.entries ≡ live c shape later old.entries = λ later rises. stays later (from_then w mark later then rises) in
+      each_ok result (λ (test : ℤ → Bool). knows i (filter (λ k. test k.1) mid.entries) ≡ false)
+      (λ (test : ℤ → Bool). (j : List ℕ) → knows j (filter (λ k. test k.1) new.entries) ≡ knows j (filter (λ k. test k.1) ((i, u) ∷ mid.entries)))
+      (Recalls c shape mark new (remembered c shape mark i time memory)) kept
+      (λ known. record {
+        alike = λ later rises j.
+            known (λ (t : ℤ). not (is_late c shape later t)) (ap (knows i) (same later rises) ∙ unknown_later mark later rises i old.entries unknown) j
+            ∙ ap (λ (t : ℤ). knows j (live c shape later ((i, t) ∷ mid.entries))) at
+            ∙ in_front j (may_count c shape later (i, time)) (i, time) (live c shape later mid.entries) (live c shape later memory) (ap (knows j) (same later rises) ∙ r.alike later rises j)
+            ∙ ap (knows j) (sym (live-live mark later rises ((i, time) ∷ memory)));
+        prompt = live-live mark mark (at_most mark) ((i, time) ∷ memory);
+      })

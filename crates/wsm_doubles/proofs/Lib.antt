@@ -1,0 +1,5 @@
+mod LastEnds
+mod Entries
+mod Forgotten
+mod Numbers
+mod Followed

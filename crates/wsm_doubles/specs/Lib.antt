@@ -1,0 +1,5 @@
+pub mod Memory
+pub mod MemoryRows
+pub mod Late
+pub mod Passing
+pub mod PassingRows
