@@ -1,17 +1,14 @@
 -- What a fault is said of.
 use Rattle.std.proofs.Common.{◌≡◌, ◌∙◌, sym, ap, ℕ, List, length, IfErr, OnOk, if◌then◌else◌, eq-eqb}
 use Rattle.std.specs.Prelude.{Result, Ok, Err, Option, Some}
-use Rattle.wsm_record.specs.Schema.{Declared}
 use Rattle.wsm_parts.specs.Csv.{picked}
-use Rattle.wsm_lines.specs.Event.{event_in}
-use Rattle.wsm_lines.specs.Fault.{IfFault}
-use Rattle.wsm_lines.specs.Said.{said_row}
+use Rattle.wsm_lines.specs.Fault.{IfFault, or_none}
+use Rattle.wsm_lines.specs.Said.{taken_row}
 use Rattle.wsm_lines.specs.Scalar.{cells}
 use Rattle.wsm_lines.specs.declared.fault.LineFault.{LineFault}
 use Rattle.wsm_lines.specs.declared.fault.LineFault.TheVariants.{CellCount}
 use Rattle.wsm_lines.specs.declared.fault.LineRefusal.{LineRefusal}
 use Rattle.wsm_lines.specs.declared.fault.LineRefusal.TheVariants.{Fault, Memory}
-use Rattle.wsm_lines.specs.declared.source.Source.{Source}
 
 -- the fault of what is the same
 pub faults_as : {A B : Type 0} (r : Result A LineRefusal) (said other : Result B LineFault) → other ≡ said → IfErr r (λ w. IfFault w (λ f. said ≡ Err f)) → IfErr r (λ w. IfFault w (λ f. other ≡ Err f))
@@ -24,9 +21,14 @@ pub events_as : {A B : Type 0} (r : Result A LineRefusal) (event : B) (said othe
 events_as (Ok a) event said other e h = e ∙ h
 events_as (Err why) event said other e h = tt
 
--- a whole row of as many cells as the header says the event of those that are picked
-pub said_row_of : (s : Source) (d : Declared) (columns : List ℕ) (count : ℕ) (row : Option (List (List ℕ))) (cs texts : List (List ℕ)) → row ≡ Some cs → length cs ≡ count → texts ≡ picked columns cs → said_row s d columns count row ≡ event_in s d (cells texts)
-said_row_of s d columns count row cs texts whole long read =
-    ap (said_row s d columns count) whole
-    ∙ ap (λ b. if b then event_in s d (cells (picked columns cs)) else Err CellCount) (eq-eqb (length cs) count long)
-    ∙ ap (λ t. event_in s d (cells t)) (sym read)
+-- what there is of what is the same
+pub found_as : {A B : Type 0} (r : Result A LineRefusal) (found : Option B) (said other : Result (Option B) LineFault) → other ≡ said → OnOk r (said ≡ Ok found) → OnOk r (or_none other ≡ found)
+found_as (Ok a) found said other e h = ap or_none (e ∙ h)
+found_as (Err why) found said other e h = tt
+
+-- a whole row of as many cells as the header is taken apart into those that are picked
+pub taken_row_of : (columns : List ℕ) (count : ℕ) (row : Option (List (List ℕ))) (cs texts : List (List ℕ)) → row ≡ Some cs → length cs ≡ count → texts ≡ picked columns cs → taken_row columns count row ≡ Ok (cells texts)
+taken_row_of columns count row cs texts whole long read =
+    ap (taken_row columns count) whole
+    ∙ ap (λ b. if b then Ok (cells (picked columns cs)) else Err CellCount) (eq-eqb (length cs) count long)
+    ∙ ap (λ t. Ok (cells t)) (sym read)

@@ -1,3 +1,5 @@
 pub mod TableLemmas
 pub mod FaultLemmas
 pub mod KeptLemmas
+pub mod FirstLemmas
+pub mod IdentifierLemmas

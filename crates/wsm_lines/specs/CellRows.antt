@@ -16,6 +16,7 @@ use Rattle.wsm_lines.specs.declared.source.Place.TheVariants.{Path, Column}
 use Rattle.wsm_lines.specs.declared.source.Source.{Source}
 use Rattle.wsm_lines.specs.Entries.{entry_with}
 use Rattle.wsm_lines.specs.Said.{said_of}
+use Rattle.wsm_lines.specs.Text.{byte_order_mark}
 
 -- keys a and b, and a number
 abbrev shop : Declared
@@ -34,6 +35,7 @@ access = record {
   key = record { at = Column 10; names = names.Prefixes (entry_with (codes "/api/") 1 ∷ []) (Some 0) };
   time = record { at = Column 3; form = Epoch Seconds; unit = Seconds };
   fields = record { at = Column 6; kind = kind.Whole; default = None } ∷ [];
+  identifier = None;
 }
 
 good_access : said_of access shop [] (codes "h - - [60] \"GET /api/x HTTP/1.0\" 200 23 \"-\" \"agent\"") ≡ Ok (Record (Some 1) (pos 60) (values.Int (pos 23) ∷ []))
@@ -71,6 +73,7 @@ table = record {
   key = record { at = Column 0; names = names.Same };
   time = record { at = Column 1; form = Epoch Seconds; unit = Seconds };
   fields = record { at = Column 2; kind = kind.Decimal (record { point = 44; group = Some 46; scale = 2 }); default = None } ∷ [];
+  identifier = None;
 }
 
 abbrev header : List ℕ
@@ -147,3 +150,25 @@ a_row_below_one_that_is_too_long = refl
 a_broken_row_below_no_header : said_of table shop (codes "when" ∷ []) (255 ∷ []) ≡ Err NotUtf8
 unfolding is_utf8 chars encode_utf8 wsm_values_on_literals
 a_broken_row_below_no_header = refl
+
+-- ---- a byte order mark is no part of the first line
+
+a_mark_and_an_access_line : said_of access shop [] (byte_order_mark ++ codes "h - - [60] \"GET /api/x HTTP/1.0\" 200 23 \"-\" \"agent\"") ≡ Ok (Record (Some 1) (pos 60) (values.Int (pos 23) ∷ []))
+unfolding is_utf8 chars encode_utf8 wsm_values_on_literals
+a_mark_and_an_access_line = refl
+
+a_mark_and_the_header : said_of table shop [] (byte_order_mark ++ header) ≡ Err Header
+unfolding is_utf8 chars encode_utf8 wsm_values_on_literals
+a_mark_and_the_header = refl
+
+a_row_below_a_mark : said_of table shop ((byte_order_mark ++ header) ∷ []) (codes "60;;b;1") ≡ Ok (Record (Some 1) (pos 60) (values.Int (pos 100) ∷ []))
+unfolding is_utf8 chars encode_utf8 wsm_values_on_literals
+a_row_below_a_mark = refl
+
+the_header_without_its_mark : said_of table shop ((byte_order_mark ++ header) ∷ []) header ≡ Err Header
+unfolding is_utf8 chars encode_utf8 wsm_values_on_literals
+the_header_without_its_mark = refl
+
+two_marks_and_the_header : said_of table shop [] (byte_order_mark ++ byte_order_mark ++ header) ≡ Err BadHeader
+unfolding is_utf8 chars encode_utf8 wsm_values_on_literals
+two_marks_and_the_header = refl

@@ -1,5 +1,5 @@
--- Which event a line says that was taken apart: its key, its time, and a value for each field. The first
--- fault counts, in this order.
+-- Which event a line says that was taken apart: its key, its time, and a value for each field, where its
+-- identifier is none that is bad. The first fault counts, in this order.
 use Rattle.std.specs.Prelude.{ℕ, ◌==◌, ◌&&◌, ℤ, List, [], ◌∷◌, ◌++◌, length, Bool, true, false, not, nat_le, if◌then◌else◌, Option, Some, None, option_map, option_and_then, Result, Ok, Err, bytes_eq, position}
 use Rattle.std.specs.Str.{is_utf8}
 use Rattle.wsm_record.specs.declared.event.Value.{Value}
@@ -22,6 +22,7 @@ use Rattle.wsm_lines.specs.declared.source.Source.{Source}
 use Rattle.wsm_lines.specs.declared.source.TimeAt.{TimeAt}
 use Rattle.wsm_lines.specs.Entries.{number_in, number_begun}
 use Rattle.wsm_lines.specs.Fault.{on_ok, or_fault}
+use Rattle.wsm_lines.specs.Identifier.{identifier_at}
 use Rattle.wsm_lines.specs.Scalar.{Scalar, Taken, absent, odd, text, number, scalar_at}
 
 -- the text of what stands at a place: where nothing stands the one fault, where it has none the other
@@ -111,9 +112,13 @@ values_from vs (f ∷ fields) taken = on_ok (field_value f taken) (λ v. values_
 abbrev pub values_of : List Field → Taken → Result (List Value) LineFault
 values_of fields taken = values_from [] fields taken
 
--- the event of a line that was taken apart
-abbrev pub event_in : Source → Declared → Taken → Result Event LineFault
-event_in s d taken =
+-- the record of a line that was taken apart
+abbrev pub record_in : Source → Declared → Taken → Result Event LineFault
+record_in s d taken =
     on_ok (key_of s.key d taken)
     (λ key. on_ok (time_at s.time taken)
     (λ time. on_ok (values_of s.fields taken) (λ vs. Ok (Record key time vs))))
+
+-- the event of a line that was taken apart; its identifier is read last
+abbrev pub event_in : Source → Declared → Taken → Result Event LineFault
+event_in s d taken = on_ok (record_in s d taken) (λ event. on_ok (identifier_at s.identifier taken) (λ identifier. Ok event))

@@ -1,7 +1,7 @@
 -- Why a line says no event, and the words that tell it.
 use Rattle.std.specs.Prelude.{ℕ, List, Option, Some, None, Result, Ok, Err, codes, ⊤}
 use Rattle.wsm_lines.specs.declared.fault.LineFault.{LineFault}
-use Rattle.wsm_lines.specs.declared.fault.LineFault.TheVariants.{TooLong, NotUtf8, NotJson, NotAccess, NotCsv, Header, BadHeader, CellCount, NoKey, BadKey, NoTime, BadTime, NoField, BadWhole, BadDecimal, BadBool, BadEnum}
+use Rattle.wsm_lines.specs.declared.fault.LineFault.TheVariants.{TooLong, NotUtf8, NotJson, NotAccess, NotCsv, Header, BadHeader, CellCount, NotRow, NoKey, BadKey, NoTime, BadTime, NoField, BadWhole, BadDecimal, BadBool, BadEnum, BadIdentifier}
 use Rattle.wsm_lines.specs.declared.fault.LineRefusal.{LineRefusal}
 use Rattle.wsm_lines.specs.declared.fault.LineRefusal.TheVariants.{Fault, Memory}
 
@@ -15,6 +15,7 @@ fault_word NotCsv = codes "NotCsv"
 fault_word Header = codes "Header"
 fault_word BadHeader = codes "BadHeader"
 fault_word CellCount = codes "CellCount"
+fault_word NotRow = codes "NotRow"
 fault_word NoKey = codes "NoKey"
 fault_word BadKey = codes "BadKey"
 fault_word NoTime = codes "NoTime"
@@ -24,6 +25,7 @@ fault_word BadWhole = codes "BadWhole"
 fault_word BadDecimal = codes "BadDecimal"
 fault_word BadBool = codes "BadBool"
 fault_word BadEnum = codes "BadEnum"
+fault_word BadIdentifier = codes "BadIdentifier"
 
 -- a fact of the fault, if a refusal is one
 abbrev pub IfFault : LineRefusal → (LineFault → Type 0) → Type 0
@@ -39,3 +41,8 @@ on_ok (Err why) f = Err why
 abbrev pub or_fault : {A : Type 0} → LineFault → Option A → Result A LineFault
 or_fault why None = Err why
 or_fault why (Some a) = Ok a
+
+-- what there is, if there was no fault
+abbrev pub or_none : {A : Type 0} → Result (Option A) LineFault → Option A
+or_none (Err why) = None
+or_none (Ok found) = found

@@ -17,6 +17,7 @@ use Rattle.wsm_lines.specs.declared.source.Place.TheVariants.{Path}
 use Rattle.wsm_lines.specs.declared.source.Source.{Source}
 use Rattle.wsm_lines.specs.Entries.{entry_with}
 use Rattle.wsm_lines.specs.Said.{said_of}
+use Rattle.wsm_lines.specs.Text.{byte_order_mark}
 
 -- keys a and b; a number, an amount, a truth and a plan
 abbrev shop : Declared
@@ -46,6 +47,7 @@ source = record {
       ∷ record { at = Path (codes "paid" ∷ []); kind = kind.Bool (record { yes = codes "ja"; no = codes "nein" }); default = None }
       ∷ record { at = Path (codes "plan" ∷ []); kind = kind.Enum (entry_with (codes "frei") 0 ∷ entry_with (codes "team") 1 ∷ []); default = None }
       ∷ [];
+  identifier = None;
 }
 
 -- the rest of a good line
@@ -210,3 +212,29 @@ the_first_prefix_counts = refl
 no_prefix : said_of by_prefix shop [] (codes "{\"k\":\"/api\",\"t\":1}") ≡ Ok (Record (Some 0) (pos 1) [])
 unfolding is_utf8 chars json_on_literals wsm_values_on_literals
 no_prefix = refl
+
+-- ---- a byte order mark is no part of the first line, but counts for how long it is
+
+a_mark : said_of by_table shop [] (byte_order_mark ++ codes "{\"k\":\"x1\",\"t\":1}") ≡ Ok (Record (Some 1) (pos 1) [])
+unfolding is_utf8 chars json_on_literals wsm_values_on_literals
+a_mark = refl
+
+a_mark_alone : said_of by_table shop [] byte_order_mark ≡ Err NotJson
+unfolding is_utf8 chars json_on_literals wsm_values_on_literals
+a_mark_alone = refl
+
+a_second_mark : said_of by_table shop [] (byte_order_mark ++ byte_order_mark ++ codes "{}") ≡ Err NotJson
+unfolding is_utf8 chars json_on_literals wsm_values_on_literals
+a_second_mark = refl
+
+a_mark_on_a_second_line : said_of by_table shop ([] ∷ []) (byte_order_mark ++ codes "{}") ≡ Err NotJson
+unfolding is_utf8 chars json_on_literals wsm_values_on_literals
+a_mark_on_a_second_line = refl
+
+a_part_of_a_mark : said_of by_table shop [] (239 ∷ 187 ∷ codes "{}") ≡ Err NotUtf8
+unfolding is_utf8 chars json_on_literals wsm_values_on_literals
+a_part_of_a_mark = refl
+
+too_long_with_a_mark : said_of (record source { longest = 4 }) shop [] (byte_order_mark ++ codes "{}") ≡ Err TooLong
+unfolding is_utf8 chars json_on_literals wsm_values_on_literals
+too_long_with_a_mark = refl

@@ -4,9 +4,13 @@ pub mod Text
 pub mod Scalar
 pub mod Heading
 pub mod Seen
+pub mod Identifier
 pub mod Event
 pub mod InPlace
 pub mod Said
+pub mod Reading
 pub mod Reader
 pub mod JsonRows
 pub mod CellRows
+pub mod IdentifierRows
+pub mod RowRows

@@ -2,7 +2,7 @@
 ghost use Rattle.std.specs.Prelude.{◌≡◌, IfErr, OnOk, Err, Ok, Some};
 ghost use Rattle.std.specs.Result.{result_map_both};
 ghost use Rattle.wsm_record.specs.Event.{Record, event_of};
-ghost use Rattle.wsm_lines.specs.Event.{decimal_in, event_in, field_in, field_value, has_line_feed, is_key, key_named, key_number, key_of, bad_kind, or_other, text_of, time_at, time_in, truth_of, value_in, values_of, word_in};
+ghost use Rattle.wsm_lines.specs.Event.{decimal_in, field_in, field_value, has_line_feed, is_key, key_named, key_number, key_of, bad_kind, or_other, record_in, text_of, time_at, time_in, truth_of, value_in, values_of, word_in};
 ghost use Rattle.wsm_lines.specs.Fault.{IfFault, or_fault};
 ghost use Rattle.wsm_lines.specs.InPlace.{values_held};
 ghost use Rattle.wsm_lines.specs.Seen.{scalar_seen, taken_seen};
@@ -236,16 +236,16 @@ fn begin_record(alloc: Global, event: &mut Event, key: Option<u16>, time: i64)
     }
 }
 
-/// Reads the event of a line in place of another.
-pub(crate) fn read_event(
+/// Reads the record of a line in place of another event.
+pub(crate) fn read_record(
     alloc: Global,
     source: &Source,
     schema: &Schema,
     taken: &Taken<'_>,
     event: &mut Event,
 ) -> Result<(), LineRefusal>
-    ensures event { OnOk result (event_in source.now schema.now (taken_seen taken.now) ≡ Ok (event_of event.new)) }
-    ensures fault { IfErr result (λ r. IfFault r (λ f. event_in source.now schema.now (taken_seen taken.now) ≡ Err f)) }
+    ensures event { OnOk result (record_in source.now schema.now (taken_seen taken.now) ≡ Ok (event_of event.new)) }
+    ensures fault { IfErr result (λ r. IfFault r (λ f. record_in source.now schema.now (taken_seen taken.now) ≡ Err f)) }
 {
     let key = key_of(&source.key, schema, taken)?;
     let time = time_at(&source.time, taken)?;

@@ -24,6 +24,8 @@ pub enum LineFault {
     BadHeader,
     /// It hasn't as many cells as the header.
     CellCount,
+    /// It isn't a row of a record: `r`, a key, a time, and a cell for each field.
+    NotRow,
     /// Nothing stands where the key should.
     NoKey,
     /// The key has no text, or none of 1 to 255 bytes without a line feed.
@@ -42,6 +44,8 @@ pub enum LineFault {
     BadBool,
     /// A field is none of its words.
     BadEnum,
+    /// The identifier has no text, or more than 255 bytes.
+    BadIdentifier,
 }
 
 impl LineFault {
@@ -58,6 +62,7 @@ impl LineFault {
             LineFault::Header => "Header",
             LineFault::BadHeader => "BadHeader",
             LineFault::CellCount => "CellCount",
+            LineFault::NotRow => "NotRow",
             LineFault::NoKey => "NoKey",
             LineFault::BadKey => "BadKey",
             LineFault::NoTime => "NoTime",
@@ -67,6 +72,7 @@ impl LineFault {
             LineFault::BadDecimal => "BadDecimal",
             LineFault::BadBool => "BadBool",
             LineFault::BadEnum => "BadEnum",
+            LineFault::BadIdentifier => "BadIdentifier",
         }
     }
 }

@@ -1,11 +1,11 @@
 //! What stands above the rows of a CSV log.
-ghost use Rattle.std.specs.Prelude.{◌≡◌, IfOk, OnOk, Err, option_map};
+ghost use Rattle.std.specs.Prelude.{◌≡◌, IfOk, OnOk, Err, option_map, true};
 ghost use Rattle.wsm_parts.specs.Csv.{cells_of, columns_of};
 ghost use Rattle.wsm_record.specs.Schema.{Declared};
 ghost use Rattle.wsm_lines.specs.declared.source.Source.{Source};
 ghost use Rattle.wsm_lines.specs.Fault.{on_ok};
-ghost use Rattle.wsm_lines.specs.Heading.{heading_by, of_cells, unread};
-ghost use Rattle.wsm_lines.specs.Said.{first_fault, said_below};
+ghost use Rattle.wsm_lines.specs.Heading.{broken, heading_by, is_unread, of_cells, unread};
+ghost use Rattle.wsm_lines.specs.Said.{event_by, first_fault, taken_below};
 ghost use Rattle.wsm_lines.specs.Seen.{heading_seen};
 ghost use Rattle.wsm_lines.specs.Text.{text_in};
 
@@ -32,7 +32,7 @@ pub struct Header {
 pub enum Heading {
     /// No line was read.
     Unread,
-    /// The first line is no header.
+    /// The first line is no header, as in all forms but CSV.
     Broken,
     /// A header.
     Known(Header),
@@ -92,6 +92,16 @@ fn first_fault(heading: &Heading) -> LineFault
     }
 }
 
+/// Answers whether the next line of a log without a header is the first; after it there is none.
+pub(crate) fn begin(heading: &mut Heading) -> bool
+    ensures first { result ≡ is_unread (heading_seen heading.old) }
+    ensures heading { heading_seen heading.new ≡ broken }
+{
+    let first = matches!(heading, Heading::Unread);
+    *heading = Heading::Broken;
+    first
+}
+
 /// Reads the first line of a CSV log, and tells its fault.
 pub(crate) fn read_first(
     alloc: Global,
@@ -101,10 +111,10 @@ pub(crate) fn read_first(
     heading: &mut Heading,
     spans: &mut Vec<Span>,
 ) -> Result<LineFault, AllocError>
-    ensures fault { IfOk result (λ f. (s : Source) (d : Declared) → on_ok (text_in longest line.now) (said_below form.now s d unread) ≡ Err f) }
-    ensures heading { OnOk result (heading_seen heading.new ≡ heading_by form.now (text_in longest line.now)) }
+    ensures fault { IfOk result (λ f. (s : Source) (d : Declared) → event_by s d (on_ok (text_in true longest line.now) (taken_below form.now unread)) ≡ Err f) }
+    ensures heading { OnOk result (heading_seen heading.new ≡ heading_by form.now (text_in true longest line.now)) }
 {
-    match text_in(longest, line) {
+    match text_in(true, longest, line) {
         Err(fault) => {
             *heading = Heading::Broken;
             Ok(fault)

@@ -1,8 +1,9 @@
 //! Events of log lines, by a source that says where each value stands and how it is written.
 //!
-//! A [`Source`] has the form of the lines, JSON, the combined form of access logs or CSV, and the places
-//! of the key, the time and the fields. A [`LineReader`] reads line by line what each says: an event of
-//! the query's schema, or the first of some [`LineFault`]s. Nothing is guessed, cut or rounded.
+//! A [`Source`] has the form of the lines, JSON, the combined form of access logs, CSV or rows, and the places
+//! of the key, the time, the fields and an identifier. A [`LineReader`] reads line by line what each says:
+//! an event of the query's schema and its identifier, or the first of some [`LineFault`]s. Nothing is
+//! guessed, cut or rounded.
 //!
 //! Where `source` has the key and the time of lines of JSON in `k` and `t`, in seconds, and no field:
 //!
@@ -19,7 +20,7 @@
 #![tactic(auto)]
 
 pub use fault::{LineFault, LineRefusal};
-pub use laws::beginnings_tell;
+pub use laws::{beginnings_tell, identifiers_are_few_bytes};
 pub use reader::LineReader;
 pub use source::{
     BoolWords, CsvForm, Field, Fields, Format, KeyForm, KeyNames, Kind, Place, Source, TimeAt,
@@ -30,12 +31,15 @@ pub use table::{Entry, Prefixes, Table};
 mod event;
 mod fault;
 mod heading;
+mod identifier;
 mod laws;
 mod line;
 mod reader;
+mod reading;
 mod room;
 mod rows;
 mod scalar;
 mod source;
 mod table;
+mod tagged;
 mod text;

@@ -9,9 +9,9 @@ use wsm_parts::{Span, Texts};
 pub struct Room {
     /// What JSON is read with.
     pub scratch: Scratch,
-    /// Where the cells of the last row stand, of CSV.
+    /// Where the cells of the last row stand, of CSV or of a query's own form.
     pub spans: Vec<Span>,
-    /// The texts of those that the source asks for.
+    /// The texts of those that the source asks for, or of all.
     pub texts: Texts,
 }
 

@@ -1,25 +1,25 @@
 //! Lines of CSV.
-ghost use Rattle.std.specs.Prelude.{◌≡◌, ◌≢◌, IfErr, OnOk, Err, Ok};
-ghost use Rattle.wsm_record.specs.Event.{event_of};
+ghost use Rattle.std.specs.Prelude.{◌≡◌, ◌≢◌, IfErr, OnOk, Err, false};
 ghost use Rattle.wsm_parts.specs.Csv.{cells_of};
 ghost use Rattle.wsm_lines.specs.Fault.{IfFault, on_ok};
-ghost use Rattle.wsm_lines.specs.Heading.{headed, known};
-ghost use Rattle.wsm_lines.specs.Said.{said_below, said_row};
-ghost use Rattle.wsm_lines.specs.Seen.{heading_seen};
+ghost use Rattle.wsm_lines.specs.Heading.{headed, is_unread};
+ghost use Rattle.wsm_lines.specs.Reading.{HoldsEvent, HoldsIdentifier, TellsFault};
+ghost use Rattle.wsm_lines.specs.Said.{taken_below, taken_row};
+ghost use Rattle.wsm_lines.specs.Seen.{header_seen, heading_seen};
 ghost use Rattle.wsm_lines.specs.Text.{text_in};
 
-use crate::event::read_event;
 use crate::fault::{LineFault, LineRefusal};
 use crate::heading::{Header, Heading, read_first};
+use crate::reading::{Reading, read_taken};
 use crate::room::Room;
 use crate::scalar::Taken;
 use crate::source::{CsvForm, Source};
 use crate::text::text_in;
 use std::alloc::Global;
 use wsm_parts::find_cells;
-use wsm_record::{Event, Schema};
+use wsm_record::Schema;
 
-// Reads the event of a row below a header.
+// Reads what a row below a header says.
 fn read_row(
     alloc: Global,
     source: &Source,
@@ -28,10 +28,11 @@ fn read_row(
     header: &Header,
     text: &[u8],
     room: &mut Room,
-    event: &mut Event,
+    reading: &mut Reading,
 ) -> Result<(), LineRefusal>
-    ensures event { OnOk result (said_row source.now schema.now header.now.columns.items header.now.count (cells_of separator text.now) ≡ Ok (event_of event.new)) }
-    ensures fault { IfErr result (λ r. IfFault r (λ f. said_row source.now schema.now header.now.columns.items header.now.count (cells_of separator text.now) ≡ Err f)) }
+    ensures event { OnOk result (HoldsEvent source.now schema.now (taken_row header.now.columns.items header.now.count (cells_of separator text.now)) reading.new) }
+    ensures identifier { OnOk result (HoldsIdentifier source.now (taken_row header.now.columns.items header.now.count (cells_of separator text.now)) reading.new) }
+    ensures fault { IfErr result (λ r. IfFault r (TellsFault source.now schema.now (taken_row header.now.columns.items header.now.count (cells_of separator text.now)))) }
 {
     if !find_cells(separator, text, &mut room.spans)? {
         return Err(LineRefusal::Fault(LineFault::NotCsv));
@@ -40,10 +41,10 @@ fn read_row(
         return Err(LineRefusal::Fault(LineFault::CellCount));
     }
     room.texts.read(alloc, text, &room.spans, &header.columns)?;
-    read_event(alloc, source, schema, &Taken::Csv(&room.texts), event)
+    read_taken(alloc, source, schema, &Taken::Csv(&room.texts), reading)
 }
 
-// Reads the event of a line below a header.
+// Reads what a line below a header says.
 fn read_below(
     alloc: Global,
     source: &Source,
@@ -52,12 +53,13 @@ fn read_below(
     header: &Header,
     line: &[u8],
     room: &mut Room,
-    event: &mut Event,
+    reading: &mut Reading,
 ) -> Result<(), LineRefusal>
-    ensures event { OnOk result (on_ok (text_in source.now.longest line.now) (said_below form.now source.now schema.now (known header.now.text.items header.now.columns.items header.now.count)) ≡ Ok (event_of event.new)) }
-    ensures fault { IfErr result (λ r. IfFault r (λ f. on_ok (text_in source.now.longest line.now) (said_below form.now source.now schema.now (known header.now.text.items header.now.columns.items header.now.count)) ≡ Err f)) }
+    ensures event { OnOk result (HoldsEvent source.now schema.now (on_ok (text_in false source.now.longest line.now) (taken_below form.now (header_seen header.now))) reading.new) }
+    ensures identifier { OnOk result (HoldsIdentifier source.now (on_ok (text_in false source.now.longest line.now) (taken_below form.now (header_seen header.now))) reading.new) }
+    ensures fault { IfErr result (λ r. IfFault r (TellsFault source.now schema.now (on_ok (text_in false source.now.longest line.now) (taken_below form.now (header_seen header.now))))) }
 {
-    let text = text_in(source.longest, line)?.as_bytes();
+    let text = text_in(false, source.longest, line)?.as_bytes();
     if text == header.text.as_slice() {
         return Err(LineRefusal::Fault(LineFault::Header));
     }
@@ -69,11 +71,11 @@ fn read_below(
         header,
         text,
         room,
-        event,
+        reading,
     )
 }
 
-/// Reads the event of a line of CSV.
+/// Reads what a line of CSV says.
 pub(crate) fn read_csv(
     alloc: Global,
     source: &Source,
@@ -82,10 +84,11 @@ pub(crate) fn read_csv(
     line: &[u8],
     heading: &mut Heading,
     room: &mut Room,
-    event: &mut Event,
+    reading: &mut Reading,
 ) -> Result<(), LineRefusal>
-    ensures event { OnOk result (on_ok (text_in source.now.longest line.now) (said_below form.now source.now schema.now (heading_seen heading.old)) ≡ Ok (event_of event.new)) }
-    ensures fault { IfErr result (λ r. IfFault r (λ f. on_ok (text_in source.now.longest line.now) (said_below form.now source.now schema.now (heading_seen heading.old)) ≡ Err f)) }
+    ensures event { OnOk result (HoldsEvent source.now schema.now (on_ok (text_in (is_unread (heading_seen heading.old)) source.now.longest line.now) (taken_below form.now (heading_seen heading.old))) reading.new) }
+    ensures identifier { OnOk result (HoldsIdentifier source.now (on_ok (text_in (is_unread (heading_seen heading.old)) source.now.longest line.now) (taken_below form.now (heading_seen heading.old))) reading.new) }
+    ensures fault { IfErr result (λ r. IfFault r (TellsFault source.now schema.now (on_ok (text_in (is_unread (heading_seen heading.old)) source.now.longest line.now) (taken_below form.now (heading_seen heading.old))))) }
     ensures heading { result ≢ Err LineRefusal.Memory → heading_seen heading.new ≡ headed form.now source.now.longest (heading_seen heading.old) line.now }
 {
     match heading {
@@ -94,11 +97,11 @@ pub(crate) fn read_csv(
             Err(LineRefusal::Fault(fault))
         }
         Heading::Broken => {
-            text_in(source.longest, line)?;
+            text_in(false, source.longest, line)?;
             Err(LineRefusal::Fault(LineFault::BadHeader))
         }
         Heading::Known(header) => read_below(
-            alloc, source, form, schema, header, line, room, event,
+            alloc, source, form, schema, header, line, room, reading,
         ),
     }
 }

@@ -30,7 +30,7 @@ pub enum Taken<'a> {
     Json(Value<'a>),
     /// The cells of an access log.
     Access(Access<'a>),
-    /// The cells of the columns that a CSV source asks for.
+    /// The cells of the columns that a CSV source asks for, or of a row.
     Csv(&'a Texts),
 }
 

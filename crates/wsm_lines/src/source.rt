@@ -42,8 +42,8 @@ pub enum Place {
     /// Under these names of members, from the whole line inward. Of a name that comes twice the last
     /// member counts.
     Path(Words),
-    /// In the cell of this number, from 0 on: of an access line's parts, or of the columns that a CSV
-    /// source asks for.
+    /// In the cell of this number, from 0 on: of an access line's parts, of the columns that a CSV source
+    /// asks for, or of a row's cells.
     Column(usize),
 }
 
@@ -56,6 +56,9 @@ pub enum Format {
     Access,
     /// A row of CSV in each line, below a header.
     Csv(CsvForm),
+    /// A row of a query's own form in each line: the cell `r`, a key, a time, and a cell for each field.
+    /// [`Place::Column`] counts its cells: the key is in 1, the time in 2, and the fields from 3 on.
+    Rows,
 }
 
 /// How rows of CSV are written, and which columns of theirs are asked for.
@@ -164,4 +167,7 @@ pub struct Source {
     pub key: KeyForm,
     pub time: TimeAt,
     pub fields: Fields,
+    /// Where a record has its identifier, if the source says so. A record of which nothing stands there
+    /// has none.
+    pub identifier: Option<Place>,
 }

@@ -105,6 +105,14 @@ impl Texts {
         read_columns(line, spans, columns, &mut self.items)
     }
 
+    /// Has the texts of all cells stand there, of a line whose cells stand at these places.
+    pub fn read_all(&mut self, alloc: Global, line: &[u8], spans: &[Span]) -> Result<(), AllocError>
+        ensures { OnOk result (self.new ≡ texts_of line.now spans.now) }
+    {
+        fit(alloc, &mut self.items, spans.len())?;
+        read_cells(line, spans, &mut self.items)
+    }
+
     /// The text of a number, and an empty one past the last.
     pub fn at(&self, place: usize) -> &[u8]
         ensures { result.now ≡ slice_index_or self.now place [] }
@@ -159,6 +167,17 @@ fn read_columns(
 {
     for (k, column) in columns.iter().enumerate() {
         read_column(line, spans, *column, &mut texts[k])?;
+    }
+    Ok(())
+}
+
+// Has the texts of all cells stand in place of as many others.
+fn read_cells(line: &[u8], spans: &[Span], texts: &mut Vec<Vec<u8>>) -> Result<(), AllocError>
+    requires { length texts.old.items ≡ length spans.now }
+    ensures { OnOk result (map (λ v. v.items) texts.new.items ≡ texts_of line.now spans.now) }
+{
+    for (k, span) in spans.iter().enumerate() {
+        read_cell(line, *span, &mut texts[k])?;
     }
     Ok(())
 }

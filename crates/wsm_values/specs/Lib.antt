@@ -1,11 +1,14 @@
 pub mod Decimal
 pub mod DecimalRows
+pub mod Fraction
 pub mod Rfc3339
 pub mod Rfc3339Rows
+pub mod Pattern
 pub mod Zone
 pub mod Clock
 pub mod Local
 pub mod LocalRows
 pub mod Time
 pub mod OnLiterals
+pub mod PatternRows
 pub mod TimeRows

@@ -2,6 +2,7 @@
 use Rattle.std.specs.Prelude.{ℕ, ◌^◌, ◌-◌, ℤ, pos, neg_ℤ, ◌*ℤ◌, List, int_lt, if◌then◌else◌, Option, Some, None, option_map, option_and_then}
 use Rattle.std.specs.Int.{int_div_euclid}
 use Rattle.wsm_values.specs.Decimal.{plain, decimal_of}
+use Rattle.wsm_values.specs.Fraction.{seconds_of}
 use Rattle.wsm_values.specs.Local.{pattern_instant}
 use Rattle.wsm_values.specs.Zone.{offset_in}
 use Rattle.wsm_values.specs.Rfc3339.{rfc3339_instant}
@@ -16,12 +17,6 @@ nanos_in Seconds = 1000000000
 nanos_in Milliseconds = 1000000
 nanos_in Microseconds = 1000
 
--- the digits of a second's fraction that a unit has
-abbrev pub digits_in : Unit → ℕ
-digits_in Seconds = 0
-digits_in Milliseconds = 3
-digits_in Microseconds = 6
-
 -- the number, where 64 bits hold it
 abbrev pub in_word : ℤ → Option ℤ
 in_word z = if int_lt z (neg_ℤ (pos (2 ^ 63))) then None else (if int_lt (pos (2 ^ 63 - 1)) z then None else Some z)
@@ -30,15 +25,15 @@ in_word z = if int_lt z (neg_ℤ (pos (2 ^ 63))) then None else (if int_lt (pos 
 abbrev pub floor_to : Unit → ℤ → ℤ
 floor_to unit nanos = int_div_euclid nanos (pos (nanos_in unit))
 
--- the nanoseconds of a count of units, with at most so many digits of a fraction, in such parts
-abbrev pub counted : Unit → ℕ → List ℕ → Option ℤ
-counted unit scale text = option_map (λ n. n *ℤ pos (nanos_in unit)) (decimal_of (plain scale) text)
+-- the nanoseconds of a whole number of units
+abbrev pub counted : Unit → List ℕ → Option ℤ
+counted unit text = option_map (λ n. n *ℤ pos (nanos_in unit)) (decimal_of (plain 0) text)
 
 -- the nanoseconds since 1970 of a text
 abbrev pub instant_of : TimeForm → List ℕ → Option ℤ
 instant_of Instant text = rfc3339_instant text
-instant_of (Epoch unit) text = counted unit 0 text
-instant_of (Fraction unit) text = counted unit (digits_in unit) text
+instant_of (Epoch unit) text = counted unit text
+instant_of Fraction text = seconds_of text
 instant_of (Local local) text = pattern_instant (offset_in local.zone) local.fold local.pattern text
 
 -- the time of a text, in a clock's unit

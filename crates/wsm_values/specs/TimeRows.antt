@@ -44,26 +44,66 @@ not_whole : time_of (Epoch Seconds) Seconds (codes "1773255600.5") ≡ None
 unfolding wsm_values_on_literals
 not_whole = refl
 
--- seconds with a fraction of as many digits as the unit has, or fewer
-fraction : time_of (Fraction Milliseconds) Milliseconds (codes "1773255600.123") ≡ Some (pos 1773255600123)
+-- seconds with a fraction of one to nine digits, or none
+fraction : time_of Fraction Milliseconds (codes "1773255600.123") ≡ Some (pos 1773255600123)
 unfolding wsm_values_on_literals
 fraction = refl
 
-short_fraction : time_of (Fraction Microseconds) Milliseconds (codes "1773255600.1") ≡ Some (pos 1773255600100)
+short_fraction : time_of Fraction Milliseconds (codes "1773255600.1") ≡ Some (pos 1773255600100)
 unfolding wsm_values_on_literals
 short_fraction = refl
 
-no_fraction : time_of (Fraction Milliseconds) Seconds (codes "1773255600") ≡ Some (pos 1773255600)
+seven_digits : time_of Fraction Microseconds (codes "1773255600.1234567") ≡ Some (pos 1773255600123456)
+unfolding wsm_values_on_literals
+seven_digits = refl
+
+nine_of_a_fraction : time_of Fraction Microseconds (codes "1773255600.999999999") ≡ Some (pos 1773255600999999)
+unfolding wsm_values_on_literals
+nine_of_a_fraction = refl
+
+ten_of_a_fraction : time_of Fraction Seconds (codes "1773255600.0000000000") ≡ None
+unfolding wsm_values_on_literals
+ten_of_a_fraction = refl
+
+no_fraction : time_of Fraction Seconds (codes "1773255600") ≡ Some (pos 1773255600)
 unfolding wsm_values_on_literals
 no_fraction = refl
 
-long_fraction : time_of (Fraction Milliseconds) Seconds (codes "1773255600.1234") ≡ None
+cut_off_fraction : time_of Fraction Seconds (codes "1773255600.") ≡ None
 unfolding wsm_values_on_literals
-long_fraction = refl
+cut_off_fraction = refl
 
-fraction_before_1970 : time_of (Fraction Milliseconds) Seconds (codes "-0.001") ≡ Some (negsuc 0)
+two_points : time_of Fraction Seconds (codes "1773255600.1.2") ≡ None
+unfolding wsm_values_on_literals
+two_points = refl
+
+only_a_fraction : time_of Fraction Seconds (codes ".5") ≡ None
+unfolding wsm_values_on_literals
+only_a_fraction = refl
+
+a_sign_inside : time_of Fraction Seconds (codes "1773255600.-5") ≡ None
+unfolding wsm_values_on_literals
+a_sign_inside = refl
+
+fraction_before_1970 : time_of Fraction Seconds (codes "-0.001") ≡ Some (negsuc 0)
 unfolding wsm_values_on_literals
 fraction_before_1970 = refl
+
+a_nanosecond_before_1970 : time_of Fraction Microseconds (codes "-0.000000001") ≡ Some (negsuc 0)
+unfolding wsm_values_on_literals
+a_nanosecond_before_1970 = refl
+
+fraction_too_late : time_of Fraction Microseconds (codes "9223372036854.775808") ≡ None
+unfolding wsm_values_on_literals
+fraction_too_late = refl
+
+latest_fraction : time_of Fraction Microseconds (codes "9223372036854.775807999") ≡ Some (pos 9223372036854775807)
+unfolding wsm_values_on_literals
+latest_fraction = refl
+
+earliest_fraction : time_of Fraction Microseconds (codes "-9223372036854.775808") ≡ Some (negsuc 9223372036854775807)
+unfolding wsm_values_on_literals
+earliest_fraction = refl
 
 -- the examples of RFC 3339, section 5.8
 with_a_fraction : time_of Instant Milliseconds (codes "1985-04-12T23:20:50.52Z") ≡ Some (pos 482196050520)

@@ -52,7 +52,7 @@ fn grown(value: u64, digit: u8) -> Option<u64>
 }
 
 // The number with so many zeros behind it.
-fn padded(value: u64, zeros: u8) -> Option<u64>
+pub(crate) fn padded(value: u64, zeros: u8) -> Option<u64>
     ensures { result ≡ padded value zeros }
 {
     let mut sum = value;
@@ -190,7 +190,7 @@ impl Digits {
 }
 
 // The parts that a decimal without its sign has.
-fn magnitude_of(form: DecimalForm, text: &[u8]) -> Option<u64>
+pub(crate) fn magnitude_of(form: DecimalForm, text: &[u8]) -> Option<u64>
     ensures { result ≡ magnitude_of form text.now }
 {
     let mut digits = Digits {

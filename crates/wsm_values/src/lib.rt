@@ -3,8 +3,8 @@
 //! A [`DecimalForm`] says how a decimal is written, and [`decimal_of`] reads one exactly, in whole parts of one:
 //! nothing is rounded and nothing cut. A [`TimeForm`] says how a time is written: as RFC 3339 has it, as a count
 //! since 1970, or as a clock in a [`Zone`] shows it, by a pattern; and [`time_of`] reads one, in the [`Unit`] that
-//! the query counts. What these texts mean is in `specs/`: `Decimal`, `Time`, `Rfc3339`, `Local`, `Clock`, each with
-//! worked rows.
+//! the query counts. What these texts mean is in `specs/`: `Decimal`, `Fraction`, `Time`, `Rfc3339`, `Local`,
+//! `Pattern`, `Clock`, with worked rows.
 //!
 //! ```rust
 //! use wsm_values::{DecimalForm, Fold, LocalForm, TimeForm, Unit, Word, Zone, decimal_of, time_of};
@@ -31,6 +31,7 @@
 pub use clock::Fold;
 pub use decimal::{DecimalForm, decimal_of, plain};
 pub use local::LocalForm;
+pub use pattern::is_pattern;
 pub use rfc3339::is_rfc3339;
 pub use time::{TimeForm, Unit, time_of};
 pub use word::Word;
@@ -38,7 +39,9 @@ pub use zone::{Zone, ZoneFault};
 
 mod clock;
 mod decimal;
+mod fraction;
 mod local;
+mod pattern;
 mod rfc3339;
 #[cfg(test)]
 mod tests;

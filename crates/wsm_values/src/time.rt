@@ -1,9 +1,9 @@
 //! Times, from a text to the query's clock.
 ghost use Rattle.std.specs.Prelude.{◌≡◌, ◌<◌, ◌≤◌, ◌^◌};
-ghost use Rattle.wsm_values.specs.Time.{nanos_in, digits_in, in_word, floor_to, counted, instant_of, time_of};
+ghost use Rattle.wsm_values.specs.Time.{nanos_in, in_word, floor_to, counted, instant_of, time_of};
 
 use crate::local::LocalForm;
-use crate::{decimal, rfc3339};
+use crate::{decimal, fraction, rfc3339};
 
 /// What a count of time counts.
 #[derive(Clone, Copy, Debug, PartialEq, Eq)]
@@ -24,9 +24,9 @@ pub enum TimeForm {
     Instant,
     /// A whole number of such units since 1970, by UTC: `1773255600`. Digits, behind a `-` before 1970.
     Epoch(Unit),
-    /// Seconds since 1970, by UTC, with at most so many digits of a fraction as the unit has, none, three or six:
-    /// `1773255600.123`. A digit more is refused, and not cut.
-    Fraction(Unit),
+    /// Seconds since 1970, by UTC, with at most nine digits of a fraction: `1773255600.1234567`. A digit more is
+    /// refused, and not cut.
+    Fraction,
     /// A date and a time as a clock shows them, by a pattern.
     Local(LocalForm),
 }
@@ -42,17 +42,6 @@ impl Unit {
             Unit::Seconds => 1_000_000_000,
             Unit::Milliseconds => 1_000_000,
             Unit::Microseconds => 1_000,
-        }
-    }
-
-    // The digits of a second's fraction that it has.
-    fn digits(self) -> u8
-        ensures { result ≡ digits_in self }
-    {
-        match self {
-            Unit::Seconds => 0,
-            Unit::Milliseconds => 3,
-            Unit::Microseconds => 6,
         }
     }
 }
@@ -77,11 +66,11 @@ fn floor_to(unit: Unit, nanos: i128) -> i128
     nanos.div_euclid(unit.nanos() as i128)
 }
 
-// The nanoseconds of a count with at most so many digits of a fraction, in such parts.
-fn counted(unit: Unit, scale: u8, text: &str) -> Option<i128>
-    ensures { result ≡ counted unit scale text.now }
+// The nanoseconds of a whole number of such units.
+fn counted(unit: Unit, text: &str) -> Option<i128>
+    ensures { result ≡ counted unit text.now }
 {
-    let count = decimal::decimal_of(decimal::plain(scale), text.as_bytes())?;
+    let count = decimal::decimal_of(decimal::plain(0), text.as_bytes())?;
     Some(count as i128 * unit.nanos() as i128)
 }
 
@@ -91,8 +80,8 @@ fn instant_of(form: &TimeForm, text: &str) -> Option<i128>
 {
     match form {
         TimeForm::Instant => rfc3339::rfc3339_instant(text),
-        TimeForm::Epoch(unit) => counted(*unit, 0, text),
-        TimeForm::Fraction(unit) => counted(*unit, unit.digits(), text),
+        TimeForm::Epoch(unit) => counted(*unit, text),
+        TimeForm::Fraction => fraction::seconds_of(text.as_bytes()),
         TimeForm::Local(local) => local.instant_of(text),
     }
 }

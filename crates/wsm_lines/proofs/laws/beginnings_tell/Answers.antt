@@ -1,4 +1,4 @@
-use Rattle.wsm_lines.proofs.KeptLemmas.{said_of-all-kept, said_of-kept}
+use Rattle.wsm_lines.proofs.KeptLemmas.{identifier_of-all-kept, said_of-all-kept, said_of-kept}
 use Rattle.wsm_lines.proofs.laws.beginnings_tell.Goals as goal
 
 pub returns-clause-all : goal.returns-clause-all
@@ -6,3 +6,6 @@ returns-clause-all c = said_of-all-kept
 
 pub returns-clause-line : goal.returns-clause-line
 returns-clause-line c = said_of-kept
+
+pub returns-clause-identifiers : goal.returns-clause-identifiers
+returns-clause-identifiers c = identifier_of-all-kept

@@ -1,0 +1,40 @@
+//! What was read of a line.
+ghost use Rattle.std.specs.Prelude.{◌≡◌, IfErr, OnOk, Err, Ok};
+ghost use Rattle.wsm_record.specs.Event.{event_of};
+ghost use Rattle.wsm_lines.specs.Event.{event_in};
+ghost use Rattle.wsm_lines.specs.Fault.{IfFault};
+ghost use Rattle.wsm_lines.specs.Identifier.{identifier_at, identifier_held};
+ghost use Rattle.wsm_lines.specs.Seen.{taken_seen};
+
+use crate::event::read_record;
+use crate::fault::LineRefusal;
+use crate::identifier::read_identifier;
+use crate::scalar::Taken;
+use crate::source::Source;
+use std::alloc::Global;
+use wsm_record::{Event, Schema};
+
+/// What was read of a line. It keeps its room from line to line.
+#[derive(Drop)]
+pub struct Reading {
+    /// Before the first event, a record without values.
+    pub event: Event,
+    /// The bytes of the identifier: none where there is no identifier, since no identifier is empty.
+    pub identifier: Vec<u8>,
+}
+
+/// Reads what a line says, its event and its identifier, in place of what was read.
+pub(crate) fn read_taken(
+    alloc: Global,
+    source: &Source,
+    schema: &Schema,
+    taken: &Taken<'_>,
+    reading: &mut Reading,
+) -> Result<(), LineRefusal>
+    ensures event { OnOk result (event_in source.now schema.now (taken_seen taken.now) ≡ Ok (event_of reading.new.event)) }
+    ensures identifier { OnOk result (identifier_at source.now.identifier (taken_seen taken.now) ≡ Ok (identifier_held reading.new.identifier.items)) }
+    ensures fault { IfErr result (λ r. IfFault r (λ f. event_in source.now schema.now (taken_seen taken.now) ≡ Err f)) }
+{
+    read_record(alloc, source, schema, taken, &mut reading.event)?;
+    read_identifier(&source.identifier, taken, &mut reading.identifier)
+}
