@@ -11,7 +11,7 @@ use Rattle.wsm_description.specs.Reading.{required, table_at, number_at}
 abbrev pub bound_of : Members → Result ℕ Refusal
 bound_of ms = on_ok (number_at (codes "clock") (codes "bound") 0 1000000000000 ms) (required (codes "clock") (codes "bound"))
 
--- one clock agrees with itself, watermarks rise by one unit, and a clock counts for a million records, where nothing is said
+-- one clock agrees with itself, watermarks rise by one unit, a clock counts for a million records, and a thousand may wait, where nothing is said
 abbrev pub clock_in : Members → Result ClockDescription Refusal
 clock_in ms =
     on_ok (known_keys section.Clock (codes "clock") ms) (λ _.
@@ -19,7 +19,8 @@ clock_in ms =
     on_ok (bound_of ms) (λ bound.
     on_ok (number_at (codes "clock") (codes "step") 1 1000000000000 ms) (λ step.
     on_ok (number_at (codes "clock") (codes "forget") 1 1000000000000 ms) (λ forget.
-    Ok (record { agree = unwrap_or agree 1; bound = bound; step = unwrap_or step 1; forget = unwrap_or forget 1000000 }))))))
+    on_ok (number_at (codes "clock") (codes "room") 0 1000000 ms) (λ room.
+    Ok (record { agree = unwrap_or agree 1; bound = bound; step = unwrap_or step 1; forget = unwrap_or forget 1000000; room = unwrap_or room 1000 })))))))
 
 abbrev pub clock_or_none : Option Members → Result (Option ClockDescription) Refusal
 clock_or_none None = Ok None

@@ -8,7 +8,7 @@ use Rattle.wsm_description.specs.declared.description.Description.{Description}
 use Rattle.wsm_description.specs.declared.description.DecimalDescription.{DecimalDescription}
 use Rattle.wsm_description.specs.declared.description.Entry.{Entry}
 use Rattle.wsm_description.specs.declared.description.FormDescription.TheVariants.{Epoch, Stamped, Local}
-use Rattle.wsm_description.specs.declared.description.Format.TheVariants.{Json, Access, Csv}
+use Rattle.wsm_description.specs.declared.description.Format.TheVariants.{Json, Access, Csv, Rows}
 use Rattle.wsm_description.specs.declared.description.KeyNaming.TheVariants.{Same, File, Prefixes}
 use Rattle.wsm_description.specs.declared.refusal.Refusal.TheVariants.{Fault}
 use Rattle.wsm_description.specs.declared.refusal.SourceFault.TheVariants.{NotToml, UnknownKey, MissingKey, BadType, BadRange, BadWord, Conflict}
@@ -23,7 +23,7 @@ unsaid = record { scale = None; point = None; group = None }
 abbrev rest : List ℕ
 rest = codes "key.at = \"k\"\n" ++ codes "time = { at = \"t\", form = \"rfc3339\" }\n"
 
--- JSON, with a file of names, local times, a decimal and watermarks
+-- JSON, with a file of names, local times, a decimal, watermarks and identifiers
 abbrev json_text : List ℕ
 json_text =
     codes "format = \"json\"\n" ++ codes "longest = 65536\n" ++ codes "[key]\n" ++ codes "at = \"/customer/id\"\n"
@@ -31,7 +31,7 @@ json_text =
     ++ codes "form = \"%d.%m.%Y %H:%M\"\n" ++ codes "zone = \"Europe/Berlin\"\n" ++ codes "fold = \"first\"\n"
     ++ codes "unit = \"milliseconds\"\n" ++ codes "[fields.amount]\n" ++ codes "at = \"/bill/amount\"\n" ++ codes "scale = 2\n"
     ++ codes "point = \",\"\n" ++ codes "group = \".\"\n" ++ codes "default = 0\n" ++ codes "[clock]\n" ++ codes "agree = 2\n"
-    ++ codes "bound = 120\n"
+    ++ codes "bound = 120\n" ++ codes "[identifier]\n" ++ codes "at = \"/event/id\"\n"
 
 abbrev json_says : Description
 json_says = record {
@@ -47,7 +47,8 @@ json_says = record {
     truths = None;
     words = None;
   } ∷ [];
-  clock = Some (record { agree = 2; bound = 120; step = 1; forget = 1000000 });
+  clock = Some (record { agree = 2; bound = 120; step = 1; forget = 1000000; room = 1000 });
+  identifier = Some (codes "/event/id");
 }
 
 json : described json_text ≡ Ok json_says
@@ -63,6 +64,7 @@ access_text =
     codes "format = \"access\"\n" ++ codes "[key]\n" ++ codes "at = \"path\"\n"
     ++ codes "prefixes = { \"/\" = \"site\", \"/api/\" = \"api\" }\n" ++ codes "other = \"site\"\n" ++ codes "[time]\n"
     ++ codes "at = \"time\"\n" ++ codes "form = \"%d/%b/%Y:%H:%M:%S %z\"\n"
+    ++ codes "[clock]\n" ++ codes "bound = 0\n" ++ codes "step = 30\n" ++ codes "forget = 5\n" ++ codes "room = 0\n"
 
 abbrev access_says : Description
 access_says = record {
@@ -71,7 +73,8 @@ access_says = record {
   key = record { at = codes "path"; naming = Prefixes by_path (Some (codes "site")) };
   time = record { at = codes "time"; form = Stamped (codes "%d/%b/%Y:%H:%M:%S %z"); unit = Seconds };
   fields = [];
-  clock = None;
+  clock = Some (record { agree = 1; bound = 0; step = 30; forget = 5; room = 0 });
+  identifier = None;
 }
 
 access : described access_text ≡ Ok access_says
@@ -108,11 +111,28 @@ csv_says = record {
     words = Some (entry_of (codes "frei") (codes "free") ∷ []);
   } ∷ [];
   clock = None;
+  identifier = None;
 }
 
 csv : described csv_text ≡ Ok csv_says
 unfolding toml_on_literals
 csv = refl
+
+-- rows, of which all else is known
+abbrev rows_says : Description
+rows_says = record {
+  format = Rows;
+  longest = 1000;
+  key = record { at = codes "key"; naming = Same };
+  time = record { at = codes "time"; form = Epoch Seconds; unit = Seconds };
+  fields = [];
+  clock = Some (record { agree = 1; bound = 60; step = 1; forget = 1000000; room = 1000 });
+  identifier = None;
+}
+
+rows : described (codes "format = \"rows\"\n" ++ codes "longest = 1000\n" ++ codes "clock.bound = 60\n") ≡ Ok rows_says
+unfolding toml_on_literals
+rows = refl
 
 -- ---- faults
 
@@ -140,6 +160,16 @@ missing_bound : described (codes "format = \"json\"\n" ++ rest ++ codes "[clock]
 unfolding toml_on_literals
 missing_bound = refl
 
+missing_place : described (codes "format = \"json\"\n" ++ rest ++ codes "[identifier]\n") ≡ Err (Fault MissingKey (codes "identifier.at"))
+unfolding toml_on_literals
+missing_place = refl
+
+unknown_in_identifier :
+    described (codes "format = \"json\"\n" ++ rest ++ codes "identifier = { at = \"id\", within = 9 }\n")
+    ≡ Err (Fault UnknownKey (codes "identifier.within"))
+unfolding toml_on_literals
+unknown_in_identifier = refl
+
 bad_type : described (codes "format = 1\n" ++ rest) ≡ Err (Fault BadType (codes "format"))
 unfolding toml_on_literals
 bad_type = refl
@@ -158,6 +188,12 @@ below_zero : described (codes "format = \"json\"\n" ++ rest ++ codes "fields.n.s
 unfolding toml_on_literals
 below_zero = refl
 
+room_above_a_million :
+    described (codes "format = \"json\"\n" ++ rest ++ codes "clock = { bound = 1, room = 1000001 }\n")
+    ≡ Err (Fault BadRange (codes "clock.room"))
+unfolding toml_on_literals
+room_above_a_million = refl
+
 scale_above_18 : described (codes "format = \"json\"\n" ++ rest ++ codes "fields.n.scale = 19\n") ≡ Err (Fault BadRange (codes "fields.n.scale"))
 unfolding toml_on_literals
 scale_above_18 = refl
@@ -171,6 +207,19 @@ bad_form :
     ≡ Err (Fault BadWord (codes "time.form"))
 unfolding toml_on_literals
 bad_form = refl
+
+-- a zone by its name is not looked up
+zone_by_its_name :
+    described (codes "format = \"json\"\n" ++ codes "key.at = \"k\"\n" ++ codes "time = { at = \"t\", form = \"%F %T %Q\", zone = \"UTC\" }\n")
+    ≡ Err (Fault BadWord (codes "time.form"))
+unfolding toml_on_literals
+zone_by_its_name = refl
+
+open_directive :
+    described (codes "format = \"json\"\n" ++ codes "key.at = \"k\"\n" ++ codes "time = { at = \"t\", form = \"%F %T %\", zone = \"UTC\" }\n")
+    ≡ Err (Fault BadWord (codes "time.form"))
+unfolding toml_on_literals
+open_directive = refl
 
 bad_unit :
     described (codes "format = \"json\"\n" ++ codes "key.at = \"k\"\n" ++ codes "time = { at = \"t\", form = \"rfc3339\", unit = \"days\" }\n")
@@ -191,6 +240,18 @@ digit_for_a_point = refl
 separator_of_json : described (codes "format = \"json\"\nseparator = \";\"\n" ++ rest) ≡ Err (Fault Conflict (codes "separator"))
 unfolding toml_on_literals
 separator_of_json = refl
+
+key_of_rows : described (codes "format = \"rows\"\n" ++ rest) ≡ Err (Fault Conflict (codes "key"))
+unfolding toml_on_literals
+key_of_rows = refl
+
+identifier_of_rows : described (codes "format = \"rows\"\n" ++ codes "identifier.at = \"id\"\n") ≡ Err (Fault Conflict (codes "identifier"))
+unfolding toml_on_literals
+identifier_of_rows = refl
+
+separator_of_rows : described (codes "format = \"rows\"\nseparator = \";\"\n") ≡ Err (Fault Conflict (codes "separator"))
+unfolding toml_on_literals
+separator_of_rows = refl
 
 names_and_prefixes :
     described (codes "format = \"json\"\n" ++ codes "key = { at = \"k\", names = \"n.csv\", prefixes = {} }\n")

@@ -6,6 +6,8 @@ pub mod KeyPart
 pub mod TimePart
 pub mod FieldPart
 pub mod ClockPart
+pub mod IdentifierPart
+pub mod RecordPart
 pub mod Whole
 pub mod Told
 pub mod DescriptionRows

@@ -6,6 +6,7 @@ use Rattle.wsm_values.specs.declared.clock.Fold.{Fold}
 use Rattle.wsm_values.specs.declared.clock.Fold.TheVariants.{Refused, First, Second}
 use Rattle.wsm_values.specs.declared.time.Unit.{Unit}
 use Rattle.wsm_values.specs.declared.time.Unit.TheVariants.{Seconds, Milliseconds, Microseconds}
+use Rattle.wsm_values.specs.Pattern.{is_pattern}
 use Rattle.wsm_description.specs.declared.description.FormDescription.{FormDescription}
 use Rattle.wsm_description.specs.declared.description.FormDescription.TheVariants.{Instant, Epoch, Fraction, Stamped, Local}
 use Rattle.wsm_description.specs.declared.description.TimeDescription.{TimeDescription}
@@ -83,9 +84,10 @@ in_zone ms pattern (Some zone) = on_ok (fold_of ms) (λ fold. Ok (Local pattern 
 abbrev pub local_form : Members → List ℕ → Result FormDescription Refusal
 local_form ms pattern = on_ok (text_at (codes "time") (codes "zone") ms) (in_zone ms pattern)
 
+-- a pattern has a percent sign, and directives alone that the reader of times takes
 abbrev pub pattern_form : Members → List ℕ → Result FormDescription Refusal
 pattern_form ms pattern =
-    if has_percent pattern then (if is_stamped pattern then without_zone ms (Stamped pattern) else local_form ms pattern)
+    if has_percent pattern && is_pattern pattern then (if is_stamped pattern then without_zone ms (Stamped pattern) else local_form ms pattern)
     else refused BadWord (codes "time") (codes "form")
 
 abbrev pub form_or_pattern : Members → List ℕ → Option FormDescription → Result FormDescription Refusal

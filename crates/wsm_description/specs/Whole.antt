@@ -10,10 +10,8 @@ use Rattle.wsm_description.specs.declared.refusal.Refusal.TheVariants.{Fault}
 use Rattle.wsm_description.specs.Refusals.{on_ok}
 use Rattle.wsm_description.specs.Keys.{known_keys}
 use Rattle.wsm_description.specs.FormatPart.{format_of, longest_of}
-use Rattle.wsm_description.specs.KeyPart.{key_of}
-use Rattle.wsm_description.specs.TimePart.{time_of}
-use Rattle.wsm_description.specs.FieldPart.{fields_of}
 use Rattle.wsm_description.specs.ClockPart.{clock_of}
+use Rattle.wsm_description.specs.RecordPart.{record_of}
 
 -- what a table says of a source, or the first fault, in this order
 abbrev pub description_of : Members → Result Description Refusal
@@ -22,10 +20,16 @@ description_of ms =
     on_ok (format_of ms) (λ format.
     on_ok (longest_of ms) (λ longest.
     on_ok (clock_of ms) (λ clock.
-    on_ok (key_of ms) (λ key.
-    on_ok (time_of ms) (λ time.
-    on_ok (fields_of ms) (λ fields.
-    Ok (record { format = format; longest = longest; key = key; time = time; fields = fields; clock = clock }))))))))
+    on_ok (record_of format ms) (λ r.
+    Ok (record {
+      format = format;
+      longest = longest;
+      key = r.key;
+      time = r.time;
+      fields = r.fields;
+      clock = clock;
+      identifier = r.identifier;
+    }))))))
 
 -- a text that is no TOML is about no key
 abbrev pub no_toml : Refusal

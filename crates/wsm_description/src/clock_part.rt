@@ -17,6 +17,9 @@ pub const MOST_AGREE: u64 = 1_000;
 /// The longest span of time: a record may be late so far, or a watermark rise.
 pub const MOST_SPAN: u64 = 1_000_000_000_000;
 
+/// The most records that may wait.
+pub const MOST_ROOM: u64 = 1_000_000;
+
 // How far a record may be late.
 fn bound_of(alloc: Global, table: &Table) -> Result<u64, Refusal>
     ensures ok { IfOk result (λ n. bound_of (table_view table.now) ≡ Ok n) }
@@ -38,11 +41,13 @@ fn clock_in(alloc: Global, table: &Table) -> Result<ClockDescription, Refusal>
     let bound = bound_of(alloc, table)?;
     let step = number_at(alloc, "clock", table, "step", 1, MOST_SPAN)?;
     let forget = number_at(alloc, "clock", table, "forget", 1, MOST_SPAN)?;
+    let room = number_at(alloc, "clock", table, "room", 0, MOST_ROOM)?;
     Ok(ClockDescription {
         agree: agree.unwrap_or(1),
         bound,
         step: step.unwrap_or(1),
         forget: forget.unwrap_or(1_000_000),
+        room: room.unwrap_or(1_000),
     })
 }
 

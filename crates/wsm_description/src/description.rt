@@ -14,6 +14,8 @@ pub enum Format {
     Access,
     /// A row of CSV, with this byte between its cells.
     Csv(u8),
+    /// A row as a run of a query takes it: `r`, the key, the time, and a cell for each field.
+    Rows,
 }
 
 /// A text, and the name that it stands for.
@@ -86,7 +88,7 @@ pub enum FormDescription {
     Instant,
     /// A whole number of such units since 1970.
     Epoch(Unit),
-    /// Seconds since 1970, with at most six digits of a fraction.
+    /// Seconds since 1970, with at most nine digits of a fraction.
     Fraction,
     /// By a pattern that has an offset or an instant.
     Stamped(Word),
@@ -173,16 +175,19 @@ impl FieldDescriptions {
 }
 
 /// How clocks make watermarks, in units of the query's clock: how many agree, how far a record may be
-/// late, how far a watermark rises at least, and how many records a clock counts for.
+/// late, how far a watermark rises at least, how many records a clock counts for, and how many records
+/// may wait that are too far ahead of the watermark.
 #[derive(Clone, Copy, Debug, PartialEq, Eq)]
 pub struct ClockDescription {
     pub agree: u64,
     pub bound: u64,
     pub step: u64,
     pub forget: u64,
+    pub room: u64,
 }
 
-/// What a source says.
+/// What a source says. Of rows the format says where the key, the time and the fields stand, and how they
+/// are written: they are read plainly, each time as whole units of the query's clock.
 #[derive(Drop)]
 pub struct Description {
     pub format: Format,
@@ -193,4 +198,6 @@ pub struct Description {
     pub fields: FieldDescriptions,
     /// None where the source has no watermarks.
     pub clock: Option<ClockDescription>,
+    /// Where a record has its identifier; none where the source says no such place.
+    pub identifier: Option<Word>,
 }

@@ -13,7 +13,7 @@ use toml::Table;
 /// The most bytes of a line that a source may ask for.
 pub const LONGEST: u64 = 16_777_216;
 
-// A format without cells has no separator.
+// A format without cells, or whose cells are known, has no separator.
 fn plain_format(alloc: Global, table: &Table, format: Format) -> Result<Format, Refusal>
     ensures ok { IfOk result (λ f. plain_format (table_view table.now) format ≡ Ok f) }
     ensures fault { IfErr result (λ r. (r ≡ Refusal.Memory) ⊎ (plain_format (table_view table.now) format ≡ Err r)) }
@@ -41,6 +41,8 @@ pub fn format_of(alloc: Global, table: &Table) -> Result<Format, Refusal>
         plain_format(alloc, table, Format::Json)
     } else if word == "access" {
         plain_format(alloc, table, Format::Access)
+    } else if word == "rows" {
+        plain_format(alloc, table, Format::Rows)
     } else if word == "csv" {
         csv_format(alloc, table)
     } else {

@@ -16,6 +16,7 @@ pub enum Section {
     Time,
     Field,
     Clock,
+    Identifier,
 }
 
 fn is_whole_key(key: &str) -> bool
@@ -28,6 +29,7 @@ fn is_whole_key(key: &str) -> bool
         || key == "time"
         || key == "fields"
         || key == "clock"
+        || key == "identifier"
 }
 
 fn is_key_key(key: &str) -> bool
@@ -58,7 +60,7 @@ fn is_field_key(key: &str) -> bool
 fn is_clock_key(key: &str) -> bool
     ensures { result ≡ is_clock_key key.now }
 {
-    key == "agree" || key == "bound" || key == "step" || key == "forget"
+    key == "agree" || key == "bound" || key == "step" || key == "forget" || key == "room"
 }
 
 impl Section {
@@ -72,6 +74,7 @@ impl Section {
             Section::Time => is_time_key(key),
             Section::Field => is_field_key(key),
             Section::Clock => is_clock_key(key),
+            Section::Identifier => key == "at",
         }
     }
 }

@@ -20,10 +20,12 @@ mod describing;
 mod description;
 mod field_part;
 mod format_part;
+mod identifier_part;
 mod key_part;
 mod keys;
 mod place;
 mod reading;
+mod record_part;
 mod refusal;
 #[cfg(test)]
 mod tests;

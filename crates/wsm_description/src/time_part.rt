@@ -10,7 +10,7 @@ use crate::reading::{require_absent, required_table, required_text, text_at, wor
 use crate::refusal::{Refusal, SourceFault, refuse};
 use std::alloc::Global;
 use toml::Table;
-use wsm_values::{Fold, Unit, Word};
+use wsm_values::{Fold, Unit, Word, is_pattern};
 
 // The unit of a word.
 fn unit_named(word: &str) -> Option<Unit>
@@ -146,12 +146,12 @@ fn local_form(alloc: Global, table: &Table, pattern: &str) -> Result<FormDescrip
     })
 }
 
-// The form of a pattern.
+// The form of a pattern, of which the reader of times takes each directive.
 fn pattern_form(alloc: Global, table: &Table, pattern: &str) -> Result<FormDescription, Refusal>
     ensures ok { IfOk result (λ f. pattern_form (table_view table.now) pattern.now ≡ Ok f) }
     ensures fault { IfErr result (λ r. (r ≡ Refusal.Memory) ⊎ (pattern_form (table_view table.now) pattern.now ≡ Err r)) }
 {
-    if !has_percent(pattern.as_bytes()) {
+    if !has_percent(pattern.as_bytes()) || !is_pattern(pattern.as_bytes()) {
         Err(refuse(alloc, SourceFault::BadWord, "time", "form"))
     } else if stamps_from(false, pattern.as_bytes()) {
         without_zone(

@@ -6,12 +6,10 @@ ghost use Rattle.wsm_description.specs.Whole.{description_of};
 
 use crate::clock_part::clock_of;
 use crate::description::Description;
-use crate::field_part::fields_of;
 use crate::format_part::{format_of, longest_of};
-use crate::key_part::key_of;
 use crate::keys::{Section, require_known};
+use crate::record_part::record_of;
 use crate::refusal::Refusal;
-use crate::time_part::time_of;
 use std::alloc::Global;
 use toml::Table;
 
@@ -24,15 +22,14 @@ pub fn description_of(alloc: Global, table: &Table) -> Result<Description, Refus
     let format = format_of(alloc, table)?;
     let longest = longest_of(alloc, table)?;
     let clock = clock_of(alloc, table)?;
-    let key = key_of(alloc, table)?;
-    let time = time_of(alloc, table)?;
-    let fields = fields_of(alloc, table)?;
+    let record = record_of(alloc, format, table)?;
     Ok(Description {
         format,
         longest,
-        key,
-        time,
-        fields,
+        key: record.key,
+        time: record.time,
+        fields: record.fields,
         clock,
+        identifier: record.identifier,
     })
 }

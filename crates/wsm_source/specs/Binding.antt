@@ -1,5 +1,5 @@
 -- A source, bound to a query.
-use Rattle.std.specs.Prelude.{ℕ, List, [], ◌∷◌, ◌++◌, codes, Option, Some, None, Result, Ok}
+use Rattle.std.specs.Prelude.{ℕ, ◌+◌, length, List, [], ◌∷◌, ◌++◌, codes, Option, Some, None, Result, Ok}
 use Rattle.wsm_record.specs.Schema.{Declared, DeclaredField}
 use Rattle.wsm_lines.specs.declared.source.Format.{Format as Lines}
 use Rattle.wsm_lines.specs.declared.source.Format.TheVariants as lines
@@ -8,11 +8,12 @@ use Rattle.wsm_values.specs.declared.zone.Zone.{Zone}
 use Rattle.wsm_description.specs.declared.description.Description.{Description}
 use Rattle.wsm_description.specs.declared.description.FieldDescription.{FieldDescription}
 use Rattle.wsm_description.specs.declared.description.Format.{Format}
-use Rattle.wsm_description.specs.declared.description.Format.TheVariants.{Json, Access, Csv}
+use Rattle.wsm_description.specs.declared.description.Format.TheVariants.{Json, Access, Csv, Rows}
 use Rattle.wsm_description.specs.declared.refusal.SourceFault.TheVariants.{BadWord}
 use Rattle.wsm_description.specs.declared.refusal.Refusal.{Refusal}
 use Rattle.wsm_description.specs.Refusals.{refused, on_ok}
 use Rattle.wsm_source.specs.Pointers.{text_or_none}
+use Rattle.wsm_source.specs.Places.{identifier_place}
 use Rattle.wsm_source.specs.KeyBinding.{key_form, time_at}
 use Rattle.wsm_source.specs.FieldBinding.{described_field, all_declared, fields_of}
 
@@ -32,13 +33,23 @@ abbrev pub columns_from : List FieldDescription → List (List ℕ) → List Dec
 columns_from fields names [] = Ok names
 columns_from fields names (d ∷ ds) = on_ok (place_said fields d) (λ at. columns_from fields (names ++ at ∷ []) ds)
 
--- the columns that a CSV is asked for: the key's, the time's and those of the fields
+-- behind the columns of the key, the time and the fields stands that of the identifier
+abbrev pub identifier_column : List DeclaredField → ℕ
+identifier_column declared = length declared + 2
+
+abbrev pub with_identifier : Option (List ℕ) → List (List ℕ) → List (List ℕ)
+with_identifier None names = names
+with_identifier (Some at) names = names ++ at ∷ []
+
+-- the columns that a CSV is asked for: the key's, the time's, those of the fields, and the identifier's
 abbrev pub columns_of : Description → List DeclaredField → Result (List (List ℕ)) Refusal
-columns_of d declared = columns_from d.fields (d.key.at ∷ d.time.at ∷ []) declared
+columns_of d declared =
+    on_ok (columns_from d.fields (d.key.at ∷ d.time.at ∷ []) declared) (λ names. Ok (with_identifier d.identifier names))
 
 abbrev pub lines_format : Description → List DeclaredField → Format → Result Lines Refusal
 lines_format d declared Json = Ok lines.Json
 lines_format d declared Access = Ok lines.Access
+lines_format d declared Rows = Ok lines.Rows
 lines_format d declared (Csv separator) = on_ok (columns_of d declared) (λ names. Ok (lines.Csv (record { separator = separator; names = names })))
 
 abbrev pub format_with : Description → List DeclaredField → Result Lines Refusal
@@ -51,5 +62,6 @@ bound d schema zone file =
     on_ok (key_form d.format schema.keys file d.key) (λ key.
     on_ok (time_at d.format zone d.time) (λ time.
     on_ok (fields_of d.format d.fields schema.fields) (λ fields.
+    on_ok (identifier_place d.format (identifier_column schema.fields) d.identifier) (λ identifier.
     on_ok (format_with d schema.fields) (λ format.
-    Ok (record { format = format; longest = d.longest; key = key; time = time; fields = fields }))))))
+    Ok (record { format = format; longest = d.longest; key = key; time = time; fields = fields; identifier = identifier })))))))

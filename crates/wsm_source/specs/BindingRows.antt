@@ -5,6 +5,7 @@ use Rattle.std.specs.Str.{chars, is_utf8}
 use Rattle.wsm_record.specs.Schema.{Declared, DeclaredField, Int, Truth, Enum}
 use Rattle.wsm_record.specs.declared.event.Value.TheVariants as values
 use Rattle.wsm_lines.specs.Entries.{entry_with}
+use Rattle.wsm_lines.specs.Text.{byte_order_mark}
 use Rattle.wsm_lines.specs.declared.source.Format.TheVariants as lines
 use Rattle.wsm_lines.specs.declared.source.KeyNames.TheVariants as names
 use Rattle.wsm_lines.specs.declared.source.Kind.TheVariants as kind
@@ -20,7 +21,7 @@ use Rattle.wsm_description.specs.declared.description.Description.{Description}
 use Rattle.wsm_description.specs.declared.description.FieldDescription.{FieldDescription}
 use Rattle.wsm_description.specs.declared.description.FormDescription.TheVariants.{Instant}
 use Rattle.wsm_description.specs.declared.description.Format.{Format}
-use Rattle.wsm_description.specs.declared.description.Format.TheVariants.{Json, Access, Csv}
+use Rattle.wsm_description.specs.declared.description.Format.TheVariants.{Json, Access, Csv, Rows}
 use Rattle.wsm_description.specs.declared.description.KeyNaming.{KeyNaming}
 use Rattle.wsm_description.specs.declared.description.KeyNaming.TheVariants.{Same, File, Prefixes}
 use Rattle.wsm_description.specs.declared.refusal.Refusal.{Refusal}
@@ -60,6 +61,7 @@ says format at naming fields = record {
   time = record { at = codes "time"; form = Instant; unit = Seconds };
   fields = fields;
   clock = None;
+  identifier = None;
 }
 
 -- ---- JSON: fields come in the query's order, and what the text lacks stands under its name
@@ -84,6 +86,7 @@ json_source = record {
         kind = kind.Enum (entry_with (codes "free") 0 ∷ entry_with (codes "big") 1 ∷ entry_with (codes "frei") 0 ∷ []);
         default = None;
       } ∷ [];
+  identifier = None;
 }
 
 json : bound (says Json (codes "/customer/id") (File (codes "names.csv") (Some (codes "web"))) (plan_said ∷ amount_said ∷ []))
@@ -92,22 +95,42 @@ json : bound (says Json (codes "/customer/id") (File (codes "names.csv") (Some (
 unfolding is_utf8 chars encode_utf8
 json = refl
 
--- ---- CSV: the columns are the key's, the time's and those of the fields
+-- ---- CSV: the columns are the key's, the time's, those of the fields, and the identifier's
 
 abbrev csv_source : Source
 csv_source = record {
-  format = lines.Csv (record { separator = 59; names = codes "who" ∷ codes "time" ∷ codes "amount" ∷ codes "plan" ∷ [] });
+  format = lines.Csv (record { separator = 59; names = codes "who" ∷ codes "time" ∷ codes "amount" ∷ codes "plan" ∷ codes "nr" ∷ [] });
   longest = 1000;
   key = record { at = Column 0; names = names.Same };
   time = record { at = Column 1; form = forms.Instant; unit = Seconds };
   fields =
       record { at = Column 2; kind = kind.Whole; default = None }
       ∷ record { at = Column 3; kind = kind.Enum (entry_with (codes "free") 0 ∷ entry_with (codes "big") 1 ∷ []); default = None } ∷ [];
+  identifier = Some (Column 4);
 }
 
-csv : bound (says (Csv 59) (codes "who") Same []) (query (amount ∷ plan ∷ [])) Utc [] ≡ Ok csv_source
+csv : bound (record (says (Csv 59) (codes "who") Same []) { identifier = Some (codes "nr") }) (query (amount ∷ plan ∷ [])) Utc []
+    ≡ Ok csv_source
 unfolding is_utf8 chars encode_utf8
 csv = refl
+
+-- ---- rows: the key, the time and the fields stand behind the tag
+
+abbrev rows_source : Source
+rows_source = record {
+  format = lines.Rows;
+  longest = 1000;
+  key = record { at = Column 1; names = names.Same };
+  time = record { at = Column 2; form = forms.Instant; unit = Seconds };
+  fields =
+      record { at = Column 3; kind = kind.Whole; default = None }
+      ∷ record { at = Column 4; kind = kind.Enum (entry_with (codes "free") 0 ∷ entry_with (codes "big") 1 ∷ []); default = None } ∷ [];
+  identifier = None;
+}
+
+rows : bound (says Rows (codes "key") Same []) (query (amount ∷ plan ∷ [])) Utc [] ≡ Ok rows_source
+unfolding is_utf8 chars encode_utf8
+rows = refl
 
 -- ---- access: places are parts of the line
 
@@ -118,6 +141,7 @@ access_source = record {
   key = record { at = Column 10; names = names.Prefixes (entry_with (codes "/api/") 0 ∷ entry_with (codes "/") 1 ∷ []) None };
   time = record { at = Column 3; form = forms.Instant; unit = Seconds };
   fields = record { at = Column 6; kind = kind.Whole; default = None } ∷ [];
+  identifier = None;
 }
 
 abbrev by_path : KeyNaming
@@ -181,6 +205,11 @@ prefix_key = refl
 key_of_a_line : key_fault (Csv 44) (codes "k") (File (codes "n") None) (codes "a,api\n" ++ codes "b,none\n") ≡ Err (Fault (BadLine 2) (codes "key.names"))
 key_of_a_line = refl
 
+-- a byte order mark in front is no part of the first line
+key_behind_a_mark : key_fault (Csv 44) (codes "k") (File (codes "n") None) (byte_order_mark ++ codes "\"a\",api\n" ++ codes "b,none\n")
+    ≡ Err (Fault (BadLine 2) (codes "key.names"))
+key_behind_a_mark = refl
+
 open_quotes : key_fault (Csv 44) (codes "k") (File (codes "n") None) (codes "\"a,api\n") ≡ Err (Fault (BadLine 1) (codes "key.names"))
 open_quotes = refl
 
@@ -189,6 +218,10 @@ no_comma = refl
 
 no_part : key_fault Access (codes "way") Same [] ≡ Err (Fault BadWord (codes "key.at"))
 no_part = refl
+
+no_part_of_an_identifier : bound (record (says Access (codes "path") Same []) { identifier = Some (codes "nr") }) (query []) Utc []
+    ≡ Err (Fault BadWord (codes "identifier.at"))
+no_part_of_an_identifier = refl
 
 no_pointer : key_fault Json (codes "/a~2") Same [] ≡ Err (Fault BadWord (codes "key.at"))
 no_pointer = refl

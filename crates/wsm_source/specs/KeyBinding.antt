@@ -9,7 +9,6 @@ use Rattle.wsm_lines.specs.declared.source.TimeAt.{TimeAt}
 use Rattle.wsm_values.specs.declared.clock.Fold.TheVariants.{Refused}
 use Rattle.wsm_values.specs.declared.time.TimeForm.{TimeForm}
 use Rattle.wsm_values.specs.declared.time.TimeForm.TheVariants as forms
-use Rattle.wsm_values.specs.declared.time.Unit.TheVariants.{Microseconds}
 use Rattle.wsm_values.specs.declared.zone.Zone.{Zone}
 use Rattle.wsm_description.specs.declared.description.Entry.{Entry as Said}
 use Rattle.wsm_description.specs.declared.description.Format.{Format}
@@ -61,7 +60,7 @@ key_form format keys file key =
 abbrev pub time_form : Zone → FormDescription → TimeForm
 time_form zone Instant = forms.Instant
 time_form zone (Epoch unit) = forms.Epoch unit
-time_form zone Fraction = forms.Fraction Microseconds
+time_form zone Fraction = forms.Fraction
 time_form zone (Stamped pattern) = forms.Local (record { pattern = pattern; fold = Refused; zone = zone })
 time_form zone (Local pattern name fold) = forms.Local (record { pattern = pattern; fold = fold; zone = zone })
 

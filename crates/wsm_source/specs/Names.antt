@@ -1,8 +1,9 @@
 -- A file of names: in each line a text, a comma and a declared key. The text may stand in quotes, where two quotes are one; without them it has
 -- neither a comma nor a quote. It has no line feed. A carriage return at the end of a line isn't of the key.
-use Rattle.std.specs.Prelude.{ℕ, ◌+◌, ◌==◌, ◌||◌, List, [], ◌∷◌, ◌++◌, codes, position, bytes_eq, if◌then◌else◌, Option, Some, None, Result, Ok, Err}
+use Rattle.std.specs.Prelude.{ℕ, ◌+◌, ◌==◌, ◌||◌, List, [], ◌∷◌, ◌++◌, true, codes, position, bytes_eq, if◌then◌else◌, Option, Some, None, Result, Ok, Err}
 use Rattle.wsm_lines.specs.declared.table.Entry.{Entry}
 use Rattle.wsm_lines.specs.Entries.{added, entry_with}
+use Rattle.wsm_lines.specs.Text.{unmarked}
 use Rattle.wsm_source.specs.declared.names_part.Within.TheVariants.{Start, Plain, Quotes, Closed, Key, Return}
 use Rattle.wsm_description.specs.declared.refusal.SourceFault.TheVariants.{BadLine}
 use Rattle.wsm_description.specs.declared.refusal.Refusal.{Refusal}
@@ -78,6 +79,9 @@ abbrev pub names_from : List (List ℕ) → NamesRead → List ℕ → Result (L
 names_from keys r [] = finish keys r
 names_from keys r (byte ∷ bytes) = on_ok (step keys r byte) (λ q. names_from keys q bytes)
 
--- the entries of a file, by the declared keys
+abbrev pub lines_of : List (List ℕ) → List ℕ → Result (List Entry) Refusal
+lines_of keys text = names_from keys begun text
+
+-- the entries of a file, by the declared keys; a byte order mark in front is no part of it
 abbrev pub names_of : List (List ℕ) → List ℕ → Result (List Entry) Refusal
-names_of keys text = names_from keys begun text
+names_of keys text = lines_of keys (unmarked true text)

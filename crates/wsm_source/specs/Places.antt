@@ -1,13 +1,13 @@
 -- Where a value stands in a line, by its format.
-use Rattle.std.specs.Prelude.{ℕ, List, codes, if◌then◌else◌, Option, Some, None, Result, Ok}
+use Rattle.std.specs.Prelude.{ℕ, ◌+◌, List, codes, if◌then◌else◌, Option, Some, None, Result, Ok}
 use Rattle.std.specs.Str.{bytes_eq}
 use Rattle.wsm_lines.specs.declared.source.Place.{Place}
 use Rattle.wsm_lines.specs.declared.source.Place.TheVariants.{Path, Column}
 use Rattle.wsm_description.specs.declared.description.Format.{Format}
-use Rattle.wsm_description.specs.declared.description.Format.TheVariants.{Json, Access, Csv}
+use Rattle.wsm_description.specs.declared.description.Format.TheVariants.{Json, Access, Csv, Rows}
 use Rattle.wsm_description.specs.declared.refusal.SourceFault.TheVariants.{BadWord}
 use Rattle.wsm_description.specs.declared.refusal.Refusal.{Refusal}
-use Rattle.wsm_description.specs.Refusals.{refused}
+use Rattle.wsm_description.specs.Refusals.{refused, on_ok}
 use Rattle.wsm_source.specs.Pointers.{path_of}
 
 abbrev pub request_cell : List ℕ → Option ℕ
@@ -43,8 +43,14 @@ cell_or_refused within (Some number) = Ok (Column number)
 abbrev pub cell_place : List ℕ → List ℕ → Result Place Refusal
 cell_place within at = cell_or_refused within (cell_named at)
 
--- where a value stands: in CSV in the column of this number, of those that are asked for
+-- where a value stands: in CSV in the column of this number, of those that are asked for, and in a row behind its tag
 abbrev pub place_of : Format → ℕ → List ℕ → List ℕ → Result Place Refusal
 place_of Json column within at = path_place within at
 place_of Access column within at = cell_place within at
 place_of (Csv separator) column within at = Ok (Column column)
+place_of Rows column within at = Ok (Column (column + 1))
+
+-- where a record has its identifier, if a place of it is said
+abbrev pub identifier_place : Format → ℕ → Option (List ℕ) → Result (Option Place) Refusal
+identifier_place format column None = Ok None
+identifier_place format column (Some at) = on_ok (place_of format column (codes "identifier") at) (λ place. Ok (Some place))

@@ -1,12 +1,12 @@
 //! A source, bound to a query.
 
-ghost use Rattle.std.specs.Prelude.{◌≡◌, ◌⊎◌, [], IfOk, IfErr, Ok, Err, map};
+ghost use Rattle.std.specs.Prelude.{◌≡◌, ◌⊎◌, ◌+◌, ◌<◌, ◌^◌, [], IfOk, IfErr, Ok, Err, map};
 ghost use Rattle.wsm_record.specs.Fields.{field_seen};
-ghost use Rattle.wsm_source.specs.Binding.{place_said, columns_of, format_with, bound};
+ghost use Rattle.wsm_source.specs.Binding.{place_said, identifier_column, columns_of, format_with, bound};
 
 use crate::field_binding::{described_field, fields_of, require_declared};
 use crate::key_binding::{key_form, time_at};
-use crate::place_part::text_or_none;
+use crate::place_part::{identifier_place, text_or_none};
 use std::alloc::Global;
 use wsm_description::{Description, FieldDescription, Format, Refusal, SourceFault, refuse};
 use wsm_lines::{CsvForm, Fields, Source, Words};
@@ -32,6 +32,14 @@ fn place_said(
     }
 }
 
+// The number of the column that a CSV is asked for the identifier, behind those of the fields.
+fn identifier_column(declared: &[DeclaredField]) -> usize
+    ensures value { result ≡ identifier_column (map field_seen declared.now) }
+    ensures few { result + 1 < 2 ^ 64 }
+{
+    declared.len() + 2
+}
+
 // The columns that a CSV is asked for.
 fn columns_of(
     alloc: Global,
@@ -46,6 +54,9 @@ fn columns_of(
     names.push(Word::new(alloc, description.time.at.as_str())?)?;
     for field in declared {
         names.push(place_said(alloc, description.fields.items(), field)?)?;
+    }
+    if let Some(at) = &description.identifier {
+        names.push(Word::new(alloc, at.as_str())?)?;
     }
     Ok(Words::new(names))
 }
@@ -62,6 +73,7 @@ fn format_with(
     match description.format {
         Format::Json => Ok(wsm_lines::Format::Json),
         Format::Access => Ok(wsm_lines::Format::Access),
+        Format::Rows => Ok(wsm_lines::Format::Rows),
         Format::Csv(separator) => {
             let names = columns_of(alloc, description, declared)?;
             Ok(wsm_lines::Format::Csv(CsvForm { separator, names }))
@@ -94,6 +106,8 @@ pub fn bind(
     let key = key_form(alloc, format, schema, names, &description.key)?;
     let time = time_at(alloc, format, zone, &description.time)?;
     let fields = fields_of(alloc, format, said, declared)?;
+    let column = identifier_column(declared);
+    let identifier = identifier_place(alloc, format, column, &description.identifier)?;
     let format = format_with(alloc, description, declared)?;
     Ok(Source {
         format,
@@ -101,5 +115,6 @@ pub fn bind(
         key,
         time,
         fields: Fields::new(fields),
+        identifier,
     })
 }

@@ -1,6 +1,6 @@
 //! The fields of a source, bound to those of a query.
 
-ghost use Rattle.std.specs.Prelude.{◌≡◌, ◌⊎◌, [], IfOk, IfErr, Ok, Err, map, option_map};
+ghost use Rattle.std.specs.Prelude.{◌+◌, ◌<◌, ◌^◌, ◌≡◌, ◌⊎◌, [], IfOk, IfErr, Ok, Err, map, option_map};
 ghost use Rattle.wsm_record.specs.Fields.{type_seen, field_seen};
 ghost use Rattle.wsm_source.specs.FieldBinding.{described_field, plain_field, is_declared, all_declared, unsaid, no_decimal, is_plain, number_kind, truth_words, named_table, word_number, words_added, enum_table, kind_of, typed_default, default_value, bound_field, field_with, fields_from, fields_of};
 
@@ -293,6 +293,7 @@ fn bound_field(
     ty: &FieldType,
     field: &FieldDescription,
 ) -> Result<Field, Refusal>
+    requires { column + 1 < 2 ^ 64 }
     ensures ok { IfOk result (λ f. bound_field format column (type_seen ty.now) field.now ≡ Ok f) }
     ensures fault { IfErr result (λ r. (r ≡ Refusal.Memory) ⊎ (bound_field format column (type_seen ty.now) field.now ≡ Err r)) }
 {
@@ -312,6 +313,7 @@ fn field_with(
     fields: &[FieldDescription],
     declared: &DeclaredField,
 ) -> Result<Field, Refusal>
+    requires { column + 1 < 2 ^ 64 }
     ensures ok { IfOk result (λ f. field_with format column fields.now (field_seen declared.now) ≡ Ok f) }
     ensures fault { IfErr result (λ r. (r ≡ Refusal.Memory) ⊎ (field_with format column fields.now (field_seen declared.now) ≡ Err r)) }
 {

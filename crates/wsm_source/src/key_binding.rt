@@ -12,7 +12,7 @@ use wsm_description::{
 };
 use wsm_lines::{KeyForm, KeyNames, Prefixes, TimeAt};
 use wsm_record::Schema;
-use wsm_values::{Fold, LocalForm, TimeForm, Unit, Word, Zone};
+use wsm_values::{Fold, LocalForm, TimeForm, Word, Zone};
 
 // The number of a declared key.
 fn key_number(
@@ -113,7 +113,7 @@ fn time_form(alloc: Global, form: &FormDescription, zone: Zone) -> Result<TimeFo
     match form {
         FormDescription::Instant => Ok(TimeForm::Instant),
         FormDescription::Epoch(unit) => Ok(TimeForm::Epoch(*unit)),
-        FormDescription::Fraction => Ok(TimeForm::Fraction(Unit::Microseconds)),
+        FormDescription::Fraction => Ok(TimeForm::Fraction),
         FormDescription::Stamped(pattern) => {
             let pattern = Word::new(alloc, pattern.as_str())?;
             let fold = Fold::Refused;

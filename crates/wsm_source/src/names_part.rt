@@ -1,7 +1,8 @@
 //! The file of names: lines TEXT,KEY.
 
-ghost use Rattle.std.specs.Prelude.{◌≡◌, ◌⊎◌, ◌+◌, ◌<◌, ◌≤◌, ◌^◌, [], IfOk, IfErr, OnOk, Ok, Err, Some, None, length, position, bytes_eq};
-ghost use Rattle.wsm_source.specs.Names.{begun, bad_line, end_line, at_start, in_plain, in_quotes, behind_quotes, in_key, behind_return, step, finish, names_of};
+ghost use Rattle.std.specs.Prelude.{◌≡◌, ◌⊎◌, ◌+◌, ◌<◌, ◌≤◌, ◌^◌, [], IfOk, IfErr, OnOk, Ok, Err, Some, None, length, position, bytes_eq, true};
+ghost use Rattle.wsm_source.specs.Names.{begun, bad_line, end_line, at_start, in_plain, in_quotes, behind_quotes, in_key, behind_return, step, finish, lines_of, names_of};
+ghost use Rattle.wsm_lines.specs.Text.{unmarked};
 
 use std::alloc::Global;
 use std::marker::Model;
@@ -208,14 +209,32 @@ impl NamesFile {
     }
 }
 
-/// The table of a file of names, by the declared keys.
-pub fn names_of(alloc: Global, schema: &Schema, text: &[u8]) -> Result<Table, Refusal>
-    ensures ok { IfOk result (λ table. names_of schema.now.keys text.now ≡ Ok table) }
-    ensures fault { IfErr result (λ r. (r ≡ Refusal.Memory) ⊎ (names_of schema.now.keys text.now ≡ Err r)) }
+// A text without the byte order mark that may stand in front of it.
+fn unmarked(text: &[u8]) -> &[u8]
+    ensures { result.now ≡ unmarked true text.now }
+{
+    match text.strip_prefix(b"\xef\xbb\xbf") {
+        Some(rest) => rest,
+        None => text,
+    }
+}
+
+// The table of lines.
+fn lines_of(alloc: Global, schema: &Schema, text: &[u8]) -> Result<Table, Refusal>
+    ensures ok { IfOk result (λ table. lines_of schema.now.keys text.now ≡ Ok table) }
+    ensures fault { IfErr result (λ r. (r ≡ Refusal.Memory) ⊎ (lines_of schema.now.keys text.now ≡ Err r)) }
 {
     let mut file = NamesFile::new(alloc);
     for byte in text {
         file.take(alloc, schema, *byte)?;
     }
     file.finish(alloc, schema)
+}
+
+/// The table of a file of names, by the declared keys. A byte order mark in front is no part of it.
+pub fn names_of(alloc: Global, schema: &Schema, text: &[u8]) -> Result<Table, Refusal>
+    ensures ok { IfOk result (λ table. names_of schema.now.keys text.now ≡ Ok table) }
+    ensures fault { IfErr result (λ r. (r ≡ Refusal.Memory) ⊎ (names_of schema.now.keys text.now ≡ Err r)) }
+{
+    lines_of(alloc, schema, unmarked(text))
 }

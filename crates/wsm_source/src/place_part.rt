@@ -1,8 +1,8 @@
 //! Where a value stands in a line, by its format.
 
-ghost use Rattle.std.specs.Prelude.{◌≡◌, ◌⊎◌, if◌then◌else◌, IfOk, IfErr, Ok, Err, Some, None};
+ghost use Rattle.std.specs.Prelude.{◌≡◌, ◌⊎◌, ◌+◌, ◌<◌, ◌^◌, if◌then◌else◌, IfOk, IfErr, Ok, Err, Some, None};
 ghost use Rattle.wsm_source.specs.Pointers.{text_or_none, start, end_name, escape, step, finish, pointer_of, path_of};
-ghost use Rattle.wsm_source.specs.Places.{request_cell, cell_named, path_place, cell_place, place_of};
+ghost use Rattle.wsm_source.specs.Places.{request_cell, cell_named, path_place, cell_place, place_of, identifier_place};
 
 use std::alloc::{AllocError, Global};
 use std::marker::Model;
@@ -208,7 +208,8 @@ fn cell_place(alloc: Global, section: &str, at: &str) -> Result<Place, Refusal>
     }
 }
 
-/// Where a value stands: in CSV in the column of this number, of those that are asked for.
+/// Where a value stands: in CSV in the column of this number, of those that are asked for, and in a row
+/// behind its tag.
 pub fn place_of(
     alloc: Global,
     format: Format,
@@ -216,6 +217,7 @@ pub fn place_of(
     section: &str,
     at: &str,
 ) -> Result<Place, Refusal>
+    requires { column + 1 < 2 ^ 64 }
     ensures ok { IfOk result (λ place. place_of format column section.now at.now ≡ Ok place) }
     ensures fault { IfErr result (λ r. (r ≡ Refusal.Memory) ⊎ (place_of format column section.now at.now ≡ Err r)) }
 {
@@ -223,5 +225,23 @@ pub fn place_of(
         Format::Json => path_place(alloc, section, at),
         Format::Access => cell_place(alloc, section, at),
         Format::Csv(_) => Ok(Place::Column(column)),
+        Format::Rows => Ok(Place::Column(column + 1)),
+    }
+}
+
+/// Where a record has its identifier, if a place of it is said.
+pub fn identifier_place(
+    alloc: Global,
+    format: Format,
+    column: usize,
+    at: &Option<Word>,
+) -> Result<Option<Place>, Refusal>
+    requires { column + 1 < 2 ^ 64 }
+    ensures ok { IfOk result (λ place. identifier_place format column at.now ≡ Ok place) }
+    ensures fault { IfErr result (λ r. (r ≡ Refusal.Memory) ⊎ (identifier_place format column at.now ≡ Err r)) }
+{
+    match at {
+        Some(at) => Ok(Some(place_of(alloc, format, column, "identifier", at.as_str())?)),
+        None => Ok(None),
     }
 }
