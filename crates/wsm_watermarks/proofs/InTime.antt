@@ -11,9 +11,7 @@ use Rattle.wsm_windows.specs.Windows.{IsShape}
 use Rattle.wsm_admission.specs.declared.clock.Clock.{Clock}
 use Rattle.wsm_admission.specs.declared.verdict.Refusal.TheVariants as refusal
 use Rattle.wsm_admission.specs.Clock.{is_late, is_time, is_too_far_ahead, source_mark, verdict, watermark_of}
-use Rattle.wsm_watermarks.specs.declared.serving.Item.{Item}
-use Rattle.wsm_watermarks.specs.declared.serving.Item.TheVariants.{Mark, Passed}
-use Rattle.wsm_watermarks.specs.Held.{AreInTime}
+use Rattle.wsm_watermarks.specs.Held.{AreInTime, Item, Mark, Passed}
 use Rattle.wsm_watermarks.specs.Served.{AreAllInTime, AreInRange, VerdictsInTime, event_of_row}
 use Rattle.wsm_watermarks.proofs.Served.{first_of, late_time, one_mark, prompt}
 

@@ -7,10 +7,8 @@ use Rattle.std.specs.Prelude.{IsPermutation, nat_le, nat_lt, ◌*◌, ◌/◌}
 use Rattle.std.specs.List.{AllByRecursion, insert}
 use Rattle.wsm_watermarks.specs.declared.held.Timed.{Timed}
 use Rattle.wsm_watermarks.specs.declared.rule.Rule.{Rule}
-use Rattle.wsm_watermarks.specs.declared.serving.Item.{Item}
-use Rattle.wsm_watermarks.specs.declared.serving.Item.TheVariants.{Mark, Passed}
 use Rattle.wsm_watermarks.specs.Agreement.{behind}
-use Rattle.wsm_watermarks.specs.Held.{all_passed, AreByTime, AreInTime, AreRising, Coming, Went, IsPartOf, Done, Both, Left, came, comings, is_far, is_near, last_mark, left, let_go, mark_for, mark_item, passed, queued, rows_of, span_of, stamped, went, went_on, KeepsRows, WaitsInTime}
+use Rattle.wsm_watermarks.specs.Held.{AreByTime, AreInTime, AreRising, Both, Coming, Done, IsPartOf, Item, KeepsRows, Left, Mark, Passed, WaitsInTime, Went, all_passed, came, comings, is_far, is_near, last_mark, left, let_go, mark_for, mark_item, passed, queued, rows_of, span_of, stamped, went, went_on}
 use Rattle.wsm_watermarks.proofs.Marks.{behind_stays, from_start, mark_rises}
 
 module _ {X : Type 0} where

@@ -7,5 +7,5 @@ mod Plain
 mod Served
 mod Tables
 mod KeptRows
-mod Letting
+pub mod Letting
 mod InTime

@@ -5,8 +5,6 @@ use Rattle.std.specs.Prelude.{List, [], ◌∷◌, ◌++◌, drop, length, map, 
 use Rattle.std.specs.List.{AllByRecursion}
 use Rattle.std.specs.Coded.{Coded, code_by, coded×, coded_list, coded_ℕ}
 use Rattle.wsm_watermarks.specs.declared.held.Timed.{Timed}
-use Rattle.wsm_watermarks.specs.declared.serving.Item.{Item}
-use Rattle.wsm_watermarks.specs.declared.serving.Item.TheVariants.{Mark, Passed}
 use Rattle.wsm_watermarks.specs.declared.rule.Rule.{Rule}
 use Rattle.wsm_watermarks.specs.declared.stamp.Stamp.{Stamp}
 use Rattle.wsm_watermarks.specs.Agreement.{behind, mark_after}
@@ -48,6 +46,11 @@ queued r [] = r ∷ []
 queued r (q ∷ qs) = if nat_lt r.time q.time then r ∷ q ∷ qs else q ∷ queued r qs
 
 -- ---- what is handed on
+
+-- a watermark, or a row
+pub data Item (T : Type 0) : Type 0 where
+  Mark : (time : ℕ) → Item T
+  Passed : (row : Timed T) → Item T
 
 -- a watermark, where it is greater than the last
 abbrev pub mark_item : {T : Type 0} → ℕ → ℕ → List (Item T)

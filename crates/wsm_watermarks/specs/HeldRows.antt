@@ -2,9 +2,7 @@
 use Rattle.std.specs.Prelude.{◌≡◌, refl, ℕ, List, [], ◌∷◌, reverse}
 use Rattle.wsm_watermarks.specs.declared.held.Timed.{Timed}
 use Rattle.wsm_watermarks.specs.declared.rule.Rule.{Rule}
-use Rattle.wsm_watermarks.specs.declared.serving.Item.{Item}
-use Rattle.wsm_watermarks.specs.declared.serving.Item.TheVariants.{Mark, Passed}
-use Rattle.wsm_watermarks.specs.Held.{Coming, Went, went}
+use Rattle.wsm_watermarks.specs.Held.{Coming, Item, Mark, Passed, Went, went}
 
 abbrev rule : Rule
 rule = record { agree = 2; forget = 1000; bound = 20; step = 10; start = 0 }

@@ -10,11 +10,9 @@ use Rattle.wsm_admission.specs.declared.verdict.Refusal.TheVariants.{Late, TooFa
 use Rattle.wsm_admission.specs.Clock.{is_time, verdict, watermark_of}
 use Rattle.wsm_watermarks.specs.declared.held.Timed.{Timed}
 use Rattle.wsm_watermarks.specs.declared.rule.Rule.{Rule}
-use Rattle.wsm_watermarks.specs.declared.serving.Item.{Item}
-use Rattle.wsm_watermarks.specs.declared.serving.Item.TheVariants.{Mark, Passed}
 use Rattle.wsm_watermarks.specs.declared.stamp.Stamp.{Stamp}
 use Rattle.wsm_watermarks.specs.Agreement.{raised_by}
-use Rattle.wsm_watermarks.specs.Held.{AreInTime}
+use Rattle.wsm_watermarks.specs.Held.{AreInTime, Item, Mark, Passed}
 use Rattle.wsm_watermarks.specs.Laws.{AreFewWrong, AreRightTo, Told}
 
 -- a record, the clock that stamped it, and whether that was wrong, which nothing looks at

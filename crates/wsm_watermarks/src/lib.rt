@@ -25,7 +25,6 @@
 pub use clocks::MOST_AGREEING;
 pub use held::{Held, MOST_HELD, Timed};
 pub use rule::Rule;
-pub use serving::{Item, Serving};
 pub use stamp::Stamp;
 pub use table::{MOST_CLOCKS, MOST_STAMPS};
 pub use watermarks::Watermarks;
@@ -34,7 +33,6 @@ mod clocks;
 mod held;
 pub mod laws;
 mod rule;
-mod serving;
 mod stamp;
 mod table;
 #[cfg(test)]

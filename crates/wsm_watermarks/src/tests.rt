@@ -31,25 +31,16 @@ fn two_clocks_agree(rt: HostRuntime) -> Result<(), Fail> {
     Ok(())
 }
 
-// One clock tells 100, 110 and 500, and a second one 480: the first two wait for it.
+// There is room for one: the later one goes on.
 #[test]
 fn rows_wait(rt: HostRuntime) -> Result<(), Fail> {
-    let mut serving = Serving::open(rt.alloc(), 2, RULE, 50, 9)?;
-    let mut out = Vec::new(rt.alloc());
-    serving.take(0, Timed { time: 100, row: 1 }, &mut out)?;
-    serving.take(0, Timed { time: 110, row: 2 }, &mut out)?;
-    assert!(rt; out.is_empty());
-    serving.take(0, Timed { time: 500, row: 3 }, &mut out)?;
-    serving.take(1, Timed { time: 480, row: 4 }, &mut out)?;
-    let want = [
-        Item::Mark(80),
-        Item::Passed(Timed { time: 100, row: 1 }),
-        Item::Mark(90),
-        Item::Passed(Timed { time: 110, row: 2 }),
-        Item::Mark(460),
-        Item::Passed(Timed { time: 500, row: 3 }),
-        Item::Passed(Timed { time: 480, row: 4 }),
-    ];
-    assert_eq!(rt; out.as_slice(), want.as_slice());
+    let mut held = Held::open(rt.alloc(), 1)?;
+    assert_eq!(rt; held.put(Timed { time: 500, row: 1 }), None);
+    assert_eq!(rt;
+        held.put(Timed { time: 300, row: 2 }),
+        Some(Timed { time: 500, row: 1 })
+    );
+    assert_eq!(rt; held.next(200, 50), None);
+    assert_eq!(rt; held.next(250, 50), Some(Timed { time: 300, row: 2 }));
     Ok(())
 }

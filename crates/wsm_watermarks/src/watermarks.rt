@@ -3,6 +3,7 @@
 ghost use Rattle.std.specs.Prelude.{◌≡◌, ◌+◌, ◌*◌, ◌/◌, ◌<◌, ◌≤◌, [], ◌∷◌, List, IfOk, length, max};
 ghost use Rattle.wsm_watermarks.specs.declared.stamp.Stamp.{Stamp as AnyStamp};
 ghost use Rattle.wsm_watermarks.specs.Agreement.{behind, raised_by};
+ghost use Rattle.wsm_watermarks.specs.Held.{mark_for};
 ghost use Rattle.wsm_watermarks.specs.Watermarks.{FitsMarks};
 
 use crate::clocks::{Clocks, MOST_AGREEING};
@@ -66,6 +67,14 @@ impl Watermarks {
         ensures { result ≡ self.now.mark }
     {
         self.mark
+    }
+
+    /// The watermark in front of a row that waited, where `told` is the last that was told: the one that the row's time alone
+    /// would raise, as far as clocks agree.
+    pub fn mark_for(&self, told: u64, time: u64) -> u64
+        ensures { result ≡ mark_for self.now.rule self.now.mark told time }
+    {
+        told.max(self.mark.min(mark_behind(self.rule, Some(time))))
     }
 
     /// How many clocks there are.
@@ -136,7 +145,7 @@ fn need_after(rule: Rule, mark: u64) -> u64
 }
 
 // The watermark that follows a time that is agreed on, and 0 where there is none.
-pub(crate) fn mark_behind(rule: Rule, agreed: Option<u64>) -> u64
+fn mark_behind(rule: Rule, agreed: Option<u64>) -> u64
     requires { 0 < rule.step }
     ensures { result ≡ behind rule agreed }
 {
