@@ -1,4 +1,6 @@
 pub mod Lines
 pub mod Counts
 pub mod Stamps
+pub mod Telling
+pub mod Going
 pub mod Texts

@@ -1,18 +1,25 @@
 //! The clocks of a log.
 
-ghost use Rattle.std.specs.Prelude.{◌≡◌, ◌<◌, ◌≤◌, ℕ, [], ◌∷◌, length, List, Option, IfOk, option_and_then, IfSome};
+ghost use Rattle.std.specs.Prelude.{◌≡◌, ◌+◌, ◌≤◌, IfSome, pos};
 ghost use Rattle.wsm_record.specs.Event.{event_of};
-ghost use Rattle.wsm_watermarks.specs.declared.rule.Rule.{Rule as AnyRule};
-ghost use Rattle.wsm_watermarks.specs.declared.stamp.Stamp.{Stamp as AnyStamp};
-ghost use Rattle.wsm_watermarks.specs.Agreement.{raised_by};
-ghost use Rattle.wsm_intake.specs.Clocks.{AreRules, Hear, Hears, IsRule};
-ghost use Rattle.wsm_intake.specs.Intake.{mark_at, stamp_of, with_stamp};
+ghost use Rattle.wsm_intake.specs.Clocks.{IsClocks, IsRule};
+ghost use Rattle.wsm_intake.specs.Intake.{mark_at, stamp_of};
 
-use std::alloc::{AllocError, Global};
-use wsm_record::limits::{LATEST_TIME, MAX_NAMES};
+use wsm_record::limits::LATEST_TIME;
 use wsm_record::{Event, Schema};
-use wsm_watermarks::{MOST_AGREEING, Rule, Stamp, Watermarks};
+use wsm_watermarks::{MOST_AGREEING, MOST_HELD, Rule, Stamp};
 use wsm_windows::is_time;
+
+/// The clocks of a log: how a watermark follows them, and which records wait for it.
+#[derive(Clone, Copy, Debug, PartialEq, Eq)]
+pub struct Clocks {
+    /// How a watermark follows them.
+    pub rule: Rule,
+    /// How far ahead of the watermark a record may be that doesn't wait, in units of event time.
+    pub ahead: u64,
+    /// How many records may wait.
+    pub room: usize,
+}
 
 /// The rule by which a watermark goes that begins at START: so many clocks have to agree on a time, it stays so far behind
 /// it and goes in such steps, and a clock is heard while its last record is among so many last ones. There is none where no
@@ -32,20 +39,32 @@ pub fn rule_of(agree: u64, bound: u64, step: u64, forget: u64, start: i64) -> Op
     })
 }
 
-/// The clocks of a rule, if there is one, before the first stamp.
-pub(crate) fn open_clocks(
-    alloc: Global,
-    rule: Option<Rule>,
-    count: usize,
-) -> Result<Option<Watermarks>, AllocError>
-    requires rule { AreRules rule }
-    requires count { count ≤ MAX_NAMES }
-    ensures { IfOk result (λ clocks. Hear rule count clocks []) }
+/// The clocks by such a rule, where a record waits that is further ahead of the watermark than the query's SKEW, and so many
+/// may wait at most. There are none either where more than [`MOST_HELD`] may, or where SKEW is less than the bound and a step,
+/// less 1: a record that waited could then be refused for having waited.
+pub fn clocks_of(
+    agree: u64,
+    bound: u64,
+    step: u64,
+    forget: u64,
+    room: u64,
+    start: i64,
+    skew: i64,
+) -> Option<Clocks>
+    ensures clocks { IfSome result IsClocks }
+    ensures ahead { IfSome result (λ c. pos c.ahead ≡ skew) }
+    ensures in_time { IfSome result (λ c. c.rule.bound + c.rule.step ≤ c.ahead + 1) }
 {
-    match rule {
-        Some(rule) => Ok(Some(Watermarks::open(alloc, count, rule)?)),
-        None => Ok(None),
+    let rule = rule_of(agree, bound, step, forget, start)?;
+    let most_ahead = rule.bound.checked_add(rule.step - 1)?;
+    if skew < 0 || skew.unsigned_abs() < most_ahead || room > MOST_HELD as u64 {
+        return None;
     }
+    Some(Clocks {
+        rule,
+        ahead: skew.unsigned_abs(),
+        room: room as usize,
+    })
 }
 
 /// What an event says of time.
@@ -69,30 +88,6 @@ pub(crate) fn stamp_of(schema: &Schema, event: &Event) -> Option<Stamp>
         }
         Event::Record { key: None, .. } => None,
         Event::Watermark { .. } => None,
-    }
-}
-
-// Tells clocks the stamp of the line of a number, and answers the watermark that it raises, where it does.
-fn tell(clocks: &mut Watermarks, stamp: Stamp, number: u64) -> Option<u64>
-    ensures { (rule : AnyRule) (count : ℕ) (past : List AnyStamp) → Hears rule count clocks.old past → stamp.clock < count → length past < number →
-        Hears rule count clocks.new (stamp ∷ past) × (result ≡ raised_by rule past stamp) }
-{
-    if stamp.clock < clocks.clocks() && clocks.heard() < number {
-        clocks.tell(stamp)
-    } else {
-        None
-    }
-}
-
-/// Tells the clocks the stamp of the line of a number, where there are any, and answers the watermark that it raises, where it
-/// does.
-pub(crate) fn tell_all(clocks: &mut Option<Watermarks>, stamp: Stamp, number: u64) -> Option<u64>
-    ensures { (rule : Option AnyRule) (count : ℕ) (past : List AnyStamp) → Hear rule count clocks.old past → stamp.clock < count → length past < number →
-        Hear rule count clocks.new (stamp ∷ past) × (result ≡ option_and_then (λ r. raised_by r past stamp) rule) }
-{
-    match clocks {
-        Some(clocks) => tell(clocks, stamp, number),
-        None => None,
     }
 }
 

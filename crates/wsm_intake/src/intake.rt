@@ -1,21 +1,22 @@
 //! What the lines of a log so far come to.
 
-use crate::clocks::{mark_at, open_clocks, stamp_of, tell_all};
+use crate::clocks::{Clocks, stamp_of};
 use crate::told::{Told, add_fault};
+use crate::waiting::{Waiting, open_clocks, take_record, tell_rest};
 use std::alloc::{AllocError, Global};
 use wsm_csv::{Device, DeviceFault, end_text, write_out};
 use wsm_engine::Totals;
 use wsm_lines::{LineFault, LineReader, LineRefusal, Source};
 use wsm_rules::Verified;
-use wsm_watermarks::{Rule, Watermarks};
+use wsm_watermarks::Stamp;
 
-/// An engine and what stands between it and a log: the reader of lines by a source, and its clocks. It has the bytes that
-/// are written for the last line.
+/// An engine and what stands between it and a log: the reader of lines by a source, and its clocks with the records that wait.
+/// It has the bytes that are written for the last line.
 #[derive(Drop)]
 pub struct Intake {
     told: Told,
     reader: LineReader,
-    clocks: Option<Watermarks>,
+    waiting: Option<Waiting>,
     // The lines so far.
     taken: u64,
     // Those that were no event.
@@ -23,35 +24,38 @@ pub struct Intake {
 }
 
 impl Intake {
-    ghost use Rattle.std.specs.Prelude.{◌≡◌, ◌++◌, ◌∷◌, true, false, List, ℕ, [], Option, Ok, Err, IfOk, OnErr, OnOk};
+    ghost use Rattle.std.specs.Prelude.{◌≡◌, ◌++◌, ◌+◌, ◌<◌, ◌∷◌, [], true, false, List, ℕ, Option, Some, Ok, IfOk, OnErr, OnOk, length};
     ghost use Rattle.std.specs.Io.KnownBytes.{Appends};
+    ghost use Rattle.wsm_record.specs.Event.{Event as AnyEvent};
+    ghost use Rattle.wsm_admission.specs.Admission.{counter};
     ghost use Rattle.wsm_csv.specs.Device.{TakesPart};
     ghost use Rattle.wsm_program.specs.Program.{Program};
-    ghost use Rattle.wsm_watermarks.specs.declared.rule.Rule.{Rule as AnyRule};
-    ghost use Rattle.wsm_lines.specs.declared.source.Source.{Source as AnySource};
-    ghost use Rattle.wsm_intake.specs.Clocks.{AreRules};
-    ghost use Rattle.wsm_record.specs.Event.{Event as AnyEvent};
     ghost use Rattle.wsm_machine.specs.Meaning.{query_of};
+    ghost use Rattle.wsm_lines.specs.declared.source.Source.{Source as AnySource};
     ghost use Rattle.wsm_lines.specs.Reader.{event_read};
-    ghost use Rattle.wsm_intake.specs.Intake.{end_line, mark_at, said};
-    ghost use Rattle.wsm_intake.specs.Turns.{Adds, Behind, Ends, Fits, Raises, Reads, Serves, Turned, line_of};
+    ghost use Rattle.wsm_watermarks.specs.declared.stamp.Stamp.{Stamp as AnyStamp};
+    ghost use Rattle.wsm_intake.specs.declared.clocks.Clocks.{Clocks as AnyClocks};
+    ghost use Rattle.wsm_intake.specs.Clocks.{AreClocks};
+    ghost use Rattle.wsm_intake.specs.Intake.{Kept, Said, fault_count, fault_text, line_behind, turn_by, turn_of};
+    ghost use Rattle.wsm_intake.specs.Waits.{Serves};
+    ghost use Rattle.wsm_intake.specs.Turns.{Ends, Fits, Goes, Holds, Turned, line_of, setting_by};
 
-    /// Before the first line. Watermarks go by the rule, where there is one; the clock of a record is its key.
+    /// Before the first line, with these clocks, where there are any.
     pub fn open(
         alloc: Global,
         verified: Verified,
         source: Source,
-        rule: Option<Rule>,
+        clocks: Option<Clocks>,
     ) -> Result<Intake, AllocError>
-        requires { AreRules rule }
-        ensures { IfOk result (λ intake. Fits source rule verified intake []) }
+        requires { AreClocks clocks }
+        ensures { IfOk result (λ intake. Fits source clocks verified intake []) }
     {
         let told = Told::open(alloc, verified)?;
-        let clocks = open_clocks(alloc, rule, told.schema().key_count())?;
+        let waiting = open_clocks(alloc, clocks, told.schema().key_count())?;
         Ok(Intake {
             told,
             reader: LineReader::new(alloc, source),
-            clocks,
+            waiting,
             taken: 0,
             faults: 0,
         })
@@ -59,7 +63,7 @@ impl Intake {
 
     /// Takes the turn of a line. The bytes are then those that are written for it.
     pub fn take(&mut self, line: &[u8]) -> Result<(), AllocError>
-        ensures { (s : AnySource) (rule : Option AnyRule) (p : Program) (before : List (List ℕ)) → Fits s rule p self.old before → OnOk result (Turned s rule p self.new before line.now) }
+        ensures { (s : AnySource) (clocks : Option AnyClocks) (p : Program) (before : List (List ℕ)) → Fits s clocks p self.old before → OnOk result (Turned s clocks p self.new before line.now) }
     {
         let Some(taken) = self.taken.checked_add(1) else {
             return Err(AllocError);
@@ -78,49 +82,49 @@ impl Intake {
         }
     }
 
-    // The turn of the event that was read, and in front of it that of the watermark that it raises.
+    // The turn of the event that was read.
     fn serve(&mut self) -> Result<(), AllocError>
-        ensures { (s : AnySource) (rule : Option AnyRule) (p : Program) (before : List (List ℕ)) (line : List ℕ) → Reads s rule p self.old before line (Ok (event_read self.old.reader)) → OnOk result (Adds s rule p self.old self.new before line) }
+        ensures { (clocks : Option AnyClocks) (p : Program) (k : Kept) → Holds clocks p self.old k → length k.stamps < self.old.taken →
+            OnOk result (Goes clocks p self.old self.new k (turn_of (setting_by clocks p) k self.old.taken (Ok (event_read self.old.reader)))) }
     {
-        match self.raised() {
-            Some(time) => self.serve_behind(time),
+        match stamp_of(self.told.schema(), self.reader.event()) {
+            Some(stamp) => self.serve_stamped(stamp),
             None => self.told.feed(self.taken, self.reader.event()),
         }
     }
 
-    // The turn of the event that was read, behind that of a watermark.
-    fn serve_behind(&mut self, time: u64) -> Result<(), AllocError>
-        ensures { (p : Program) (past : List AnyEvent) → Serves p self.old.told past →
-            OnOk result (Behind p self.old self.new past (mark_at time)) }
+    // The turn of the event that was read, with its stamp.
+    fn serve_stamped(&mut self, stamp: Stamp) -> Result<(), AllocError>
+        ensures { (clocks : Option AnyClocks) (p : Program) (k : Kept) → Holds clocks p self.old k → length k.stamps < self.old.taken → stamp.clock < length p.header.schema.keys →
+            OnOk result (Goes clocks p self.old self.new k (turn_by (setting_by clocks p) k self.old.taken (Some stamp) (event_read self.old.reader))) }
     {
-        let mark = mark_at(time);
-        self.told.feed(self.taken, &mark)?;
-        self.told.feed(self.taken, self.reader.event())
-    }
-
-    // The time of the watermark that the event that was read raises, where there are clocks and it raises one.
-    fn raised(&mut self) -> Option<u64>
-        ensures raised { (s : AnySource) (rule : Option AnyRule) (p : Program) (before : List (List ℕ)) (line : List ℕ) → Reads s rule p self.old before line (Ok (event_read self.old.reader)) → Raises s rule p self.old self.new before result }
-        ensures others { self.new ≡ record self.old { clocks = self.new.clocks } }
-    {
-        let stamp = stamp_of(self.told.schema(), self.reader.event())?;
-        tell_all(&mut self.clocks, stamp, self.taken)
+        take_record(
+            &mut self.waiting,
+            stamp,
+            self.taken,
+            self.reader.event(),
+            &mut self.told,
+        )
     }
 
     // The turn of a line that is no event.
     fn refuse(&mut self, why: LineFault) -> Result<(), AllocError>
-        ensures { (s : AnySource) (rule : Option AnyRule) (p : Program) (before : List (List ℕ)) (line : List ℕ) → Reads s rule p self.old before line (Err why) → OnOk result (Adds s rule p self.old self.new before line) }
+        ensures text { OnOk result (self.new.told.lines.items ≡ self.old.told.lines.items ++ fault_text self.old.taken why) }
+        ensures faults { (n : ℕ) → self.old.faults ≡ counter n → self.new.faults ≡ counter (n + 1) }
+        ensures others { self.new ≡ record self.old { told = record self.old.told { lines = self.new.told.lines }; faults = self.new.faults } }
     {
         self.faults = self.faults.saturating_add(1);
         add_fault(self.taken, why, &mut self.told.lines)
     }
 
-    /// Ends the turns. The bytes are then those of the last line, whose numbers are answered.
+    /// Ends the turns: what waits is told. The bytes are then those behind all turns, with the last line, whose numbers are
+    /// answered.
     pub fn end(&mut self) -> Result<Totals, AllocError>
-        ensures { (s : AnySource) (rule : Option AnyRule) (p : Program) (lines : List (List ℕ)) → Fits s rule p self.old lines → IfOk result (λ totals. Ends s rule p self.new lines totals) }
+        ensures { (s : AnySource) (clocks : Option AnyClocks) (p : Program) (lines : List (List ℕ)) → Fits s clocks p self.old lines → IfOk result (Ends s clocks p self.new lines) }
     {
-        let totals = self.totals();
         self.told.lines.clear();
+        tell_rest(&self.waiting, &mut self.told)?;
+        let totals = self.totals();
         end_text(totals, &mut self.told.lines)?;
         Ok(totals)
     }
@@ -138,7 +142,8 @@ impl Intake {
 
     // What all turns come to.
     fn totals(&self) -> Totals
-        ensures { (s : AnySource) (rule : Option AnyRule) (p : Program) (lines : List (List ℕ)) → Fits s rule p self.now lines → line_of result ≡ end_line (query_of p) rule (said s p.header.schema lines) }
+        ensures { (p : Program) (past : List AnyEvent) (lines : List Said) → Serves p self.now.told past → self.now.taken ≡ length lines → self.now.faults ≡ counter (fault_count lines) →
+            line_of result ≡ line_behind (query_of p) lines past }
     {
         let totals = self.told.engine.totals();
         Totals {

@@ -29,7 +29,7 @@ impl Told {
     ghost use Rattle.wsm_program.specs.Program.{Program};
     ghost use Rattle.wsm_semantics.specs.Lines.{refusal_lines};
     ghost use Rattle.wsm_semantics.specs.Text.{lines_text};
-    ghost use Rattle.wsm_intake.specs.Turns.{Serves, Tells};
+    ghost use Rattle.wsm_intake.specs.Waits.{Serves, Tells};
 
     /// Before the first event.
     pub fn open(alloc: Global, verified: Verified) -> Result<Told, AllocError>
@@ -53,7 +53,7 @@ impl Told {
 
     /// Takes the turn of an event of the line of a number, and adds its bytes.
     pub fn feed(&mut self, number: u64, event: &Event) -> Result<(), AllocError>
-        ensures { (p : Program) (past : List AnyEvent) → Serves p self.old past → OnOk result (Tells p self.old self.new number past (event_of event.now)) }
+        ensures { (p : Program) (past : List AnyEvent) → Serves p self.old past → OnOk result (Tells p self.old self.new past (record { number = number; event = event_of event.now } ∷ [])) }
     {
         let reply = self.engine.feed(event);
         self.tell(number, reply.refusal)?;

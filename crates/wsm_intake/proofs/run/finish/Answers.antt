@@ -13,33 +13,33 @@ use Rattle.wsm_intake.proofs.run.finish.Goals as goal
 pub returns-in_err-write-clause-ends_early : goal.returns-in_err-write-clause-ends_early
 returns-in_err-write-clause-ends_early g c =
     let e = err_from_is_err_and c.from_residual-in_err-write.result c.from_residual-in_err-write.ensures.1 in
-    rw (e.1, e.2) (λ known s rule p read old all stands.
+    rw (e.1, e.2) (λ known s clocks p read old all stands.
     let mid = g.D.Device.taken c.args.out.now in
     let new = g.D.Device.taken c.write.new.out in
-    let turns = turns_text (query_of p) rule (read_by s (query_of p) read) in
-    let whole = last_text s rule p read c.end.new.self c.in_ok-totals.totals (c.in_ok-totals.ensures s rule p (reverse read) stands.fits) in
+    let turns = turns_text (query_of p) clocks (read_by s (query_of p) read) in
+    let whole = last_text s clocks p read c.end.new.self c.in_ok-totals.totals (c.in_ok-totals.ensures s clocks p (reverse read) stands.fits) in
     inr (record { all = all; part = subst (TakesPart old new) whole (TakesPart-last old mid new turns c.end.new.self.told.lines.items stands.text c.in_err-write.ensures.part) }))
 
 pub returns-in_err-flush-clause-ends_early : goal.returns-in_err-flush-clause-ends_early
 returns-in_err-flush-clause-ends_early g c =
     let e = err_from_is_err_and c.from_residual-in_err-flush.result c.from_residual-in_err-flush.ensures.1 in
-    rw (e.1, e.2) (λ known s rule p read old all stands.
+    rw (e.1, e.2) (λ known s clocks p read old all stands.
     let mid = g.D.Device.taken c.args.out.now in
     let new = g.D.Device.taken c.write.new.out in
     let end = g.D.Device.taken c.flush.new.self in
     let last = c.end.new.self.told.lines.items in
-    let turns = turns_text (query_of p) rule (read_by s (query_of p) read) in
-    let whole = last_text s rule p read c.end.new.self c.in_ok-totals.totals (c.in_ok-totals.ensures s rule p (reverse read) stands.fits) in
+    let turns = turns_text (query_of p) clocks (read_by s (query_of p) read) in
+    let whole = last_text s clocks p read c.end.new.self c.in_ok-totals.totals (c.in_ok-totals.ensures s clocks p (reverse read) stands.fits) in
     let written = Keeps-Appends old new end (turns ++ last) (Appends-join old mid new turns last stands.text c.in_ok-write.ensures.all) c.in_err-flush.ensures.kept in
     inr (record { all = all; part = subst (TakesPart old end) whole (TakesPart-all old end (turns ++ last) written) }))
 
 pub returns-clause-completes : goal.returns-clause-completes
-returns-clause-completes g c = λ known s rule p read old all stands.
+returns-clause-completes g c = λ known s clocks p read old all stands.
     let mid = g.D.Device.taken c.args.out.now in
     let new = g.D.Device.taken c.write.new.out in
     let end = g.D.Device.taken c.flush.new.self in
     let last = c.end.new.self.told.lines.items in
-    let turns = turns_text (query_of p) rule (read_by s (query_of p) read) in
-    let ends = c.in_ok-totals.ensures s rule p (reverse read) stands.fits in
+    let turns = turns_text (query_of p) clocks (read_by s (query_of p) read) in
+    let ends = c.in_ok-totals.ensures s clocks p (reverse read) stands.fits in
     let written = Keeps-Appends old new end (turns ++ last) (Appends-join old mid new turns last stands.text c.in_ok-write.ensures.all) c.in_ok-flush.ensures.kept in
-    record { all = all; text = subst (Appends old end) (last_text s rule p read c.end.new.self c.in_ok-totals.totals ends) written; numbers = ends.numbers }
+    record { all = all; text = subst (Appends old end) (last_text s clocks p read c.end.new.self c.in_ok-totals.totals ends) written; numbers = ends.numbers }

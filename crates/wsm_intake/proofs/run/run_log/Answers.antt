@@ -1,29 +1,33 @@
-use Rattle.std.specs.Prelude.{Result, Ok, Err, IfErr, IfOk, List, ℕ}
-use Rattle.wsm_semantics.specs.declared.ending.Totals.{Totals}
+use Rattle.std.proofs.Common.{[], ℕ, List, Option}
+use Rattle.std.proofs.lemmas.Result.{err_from_is_err_and}
+use Rattle.wsm_csv.proofs.Written.{Appends-start}
+use Rattle.wsm_intake.specs.declared.clocks.Clocks.{Clocks}
+use Rattle.wsm_semantics.specs.Query.{Query}
 use Rattle.wsm_machine.specs.Meaning.{query_of}
-use Rattle.wsm_intake.specs.declared.run.LogEnd.{LogEnd}
-use Rattle.wsm_intake.specs.Run.{Completes, EndsEarly}
+use Rattle.wsm_lines.specs.declared.source.Source.{Source}
+use Rattle.wsm_log_rows.specs.declared.end.LogEnd.TheVariants.{Memory}
+use Rattle.wsm_intake.specs.Run.{LogBroken}
+use Rattle.wsm_log_rows.proofs.Reading.{AreFirst-none}
 use Rattle.wsm_intake.proofs.run.run_log.Goals as goal
 
--- what is told of some lines is told of lines
-lines_of_end : (P : LogEnd → List (List ℕ) → Type 0) (r : Result Totals LogEnd) (read : List (List ℕ)) → IfErr r (λ end. P end read) → IfErr r (λ end. (x : List (List ℕ)) × P end x)
-lines_of_end P (Ok totals) read h = h
-lines_of_end P (Err end) read h = (read, h)
+-- nothing was read or written, for want of memory
+nothing : (known : Option (List ℕ)) (s : Source) (clocks : Option Clocks) (old : Option (List ℕ)) (q : Query) → LogBroken known s clocks old old q Memory
+nothing known s clocks old q = ([], record { first = AreFirst-none s.longest known; text = Appends-start old })
 
-lines_of_totals : (P : Totals → List (List ℕ) → Type 0) (r : Result Totals LogEnd) (read : List (List ℕ)) → IfOk r (λ totals. P totals read) → IfOk r (λ totals. (x : List (List ℕ)) × P totals x)
-lines_of_totals P (Ok totals) read h = (read, h)
-lines_of_totals P (Err end) read h = h
+pub returns-in_err-lines-clause-ends_early : goal.returns-in_err-lines-clause-ends_early
+returns-in_err-lines-clause-ends_early g c =
+    let e = err_from_is_err_and c.from_residual.result c.from_residual.ensures.1 in
+    rw (e.1, e.2) (nothing (g.R.Read.remaining c.args.reader) c.args.source c.args.clocks (g.D.Device.taken c.args.out.now) (query_of c.args.verified))
+
+pub returns-in_err-intake-clause-ends_early : goal.returns-in_err-intake-clause-ends_early
+returns-in_err-intake-clause-ends_early g c =
+    let e = err_from_is_err_and c.from_residual-in_err-intake.result c.from_residual-in_err-intake.ensures.1 in
+    rw (e.1, e.2) (nothing (g.R.Read.remaining c.args.reader) c.args.source c.args.clocks (g.D.Device.taken c.args.out.now) (query_of c.args.verified))
 
 pub returns-clause-completes : goal.returns-clause-completes
-returns-clause-completes g c = λ known s rule p start fits.
-    let t = c.in_ok-take_lines.ensures.taken known s rule p start fits in
-    let old = g.D.Device.taken c.args.out.now in
-    lines_of_totals (λ totals read. Completes known s rule (query_of p) read old (g.D.Device.taken c.finish.new.out) totals) c.finish.result t.0
-    (c.finish.ensures.completes known s rule p t.0 old t.1 t.2)
+returns-clause-completes g c =
+    c.take_log.ensures.completes (g.R.Read.remaining c.args.reader) c.args.source c.args.clocks c.args.verified c.in_ok-lines.ensures c.in_ok-intake.ensures
 
 pub returns-clause-ends_early : goal.returns-clause-ends_early
-returns-clause-ends_early g c = λ known s rule p start fits.
-    let t = c.in_ok-take_lines.ensures.taken known s rule p start fits in
-    let old = g.D.Device.taken c.args.out.now in
-    lines_of_end (λ end read. EndsEarly known s rule (query_of p) read old (g.D.Device.taken c.finish.new.out) end) c.finish.result t.0
-    (c.finish.ensures.ends_early known s rule p t.0 old t.1 t.2)
+returns-clause-ends_early g c =
+    c.take_log.ensures.ends_early (g.R.Read.remaining c.args.reader) c.args.source c.args.clocks c.args.verified c.in_ok-lines.ensures c.in_ok-intake.ensures

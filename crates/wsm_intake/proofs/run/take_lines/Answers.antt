@@ -1,38 +1,39 @@
-use Rattle.std.proofs.Common.{◌++◌, ◌∷◌, [], ℕ, List, inl, reverse, subst, sym}
+use Rattle.std.proofs.Common.{◌++◌, ◌∷◌, [], inl, reverse, subst}
 use Rattle.std.proofs.lemmas.Result.{err_from_is_err_and}
 use Rattle.wsm_log.specs.Lines.{line_of}
 use Rattle.wsm_intake.specs.Turns.{Turned}
-use Rattle.wsm_intake.proofs.Texts.{Follows-first, Stands-next, Stands-start, TakesPart-next}
+use Rattle.wsm_log_rows.proofs.Reading.{Follows-first}
+use Rattle.wsm_intake.proofs.Texts.{Stands-next, Stands-start, TakesPart-next}
 use Rattle.wsm_intake.proofs.run.take_lines.Goals as goal
 
 pub loop-intake-init : goal.loop-intake-init
 loop-intake-init g c = record {
   works = c.requires;
-  turns = λ known s rule p follows fits. ([], follows, Stands-start s rule p (g.D.Device.taken c.args.out.now) c.args.intake.now fits);
+  turns = λ known s clocks p follows fits. ([], follows, Stands-start s clocks p (g.D.Device.taken c.args.out.now) c.args.intake.now fits);
 }
 
 pub loop-intake-preserved : goal.loop-intake-preserved
 loop-intake-preserved g c = record {
   works = c.in_ok-write.ensures.works;
-  turns = λ known s rule p start fits.
-      let (read, follows, stands) = c.loop-intake.invariant.turns known s rule p start fits in
+  turns = λ known s clocks p start fits.
+      let (read, follows, stands) = c.loop-intake.invariant.turns known s clocks p start fits in
       let line = line_of c.advance.new.self in
       let follows' = rw c.if-branch.true at (c.in_ok-advance.ensures.advances s.longest known read follows) in
-      let turned = subst (Turned s rule p c.take.new.self (reverse read)) c.line.ensures.value (c.in_ok-take.ensures s rule p (reverse read) stands.fits) in
-      (read ++ line ∷ [], follows', Stands-next s rule p read line c.loop-intake.intake c.take.new.self turned (g.D.Device.taken c.args.out.now) (g.D.Device.taken c.loop-intake.out) (g.D.Device.taken c.write.new.out) stands c.in_ok-write.ensures.all);
+      let turned = subst (Turned s clocks p c.take.new.self (reverse read)) c.line.ensures.value (c.in_ok-take.ensures s clocks p (reverse read) stands.fits) in
+      (read ++ line ∷ [], follows', Stands-next s clocks p read line c.loop-intake.intake c.take.new.self turned (g.D.Device.taken c.args.out.now) (g.D.Device.taken c.loop-intake.out) (g.D.Device.taken c.write.new.out) stands c.in_ok-write.ensures.all);
 }
 
 pub returns-in_err-write-clause-ends_early : goal.returns-in_err-write-clause-ends_early
 returns-in_err-write-clause-ends_early g c =
     let e = err_from_is_err_and c.from_residual-in_err-write.result c.from_residual-in_err-write.ensures.1 in
-    rw (e.1, e.2) (λ known s rule p start fits.
-    let (read, follows, stands) = c.loop-intake.invariant.turns known s rule p start fits in
+    rw (e.1, e.2) (λ known s clocks p start fits.
+    let (read, follows, stands) = c.loop-intake.invariant.turns known s clocks p start fits in
     let line = line_of c.advance.new.self in
     let follows' = rw c.if-branch.true at (c.in_ok-advance.ensures.advances s.longest known read follows) in
-    let turned = subst (Turned s rule p c.take.new.self (reverse read)) c.line.ensures.value (c.in_ok-take.ensures s rule p (reverse read) stands.fits) in (
+    let turned = subst (Turned s clocks p c.take.new.self (reverse read)) c.line.ensures.value (c.in_ok-take.ensures s clocks p (reverse read) stands.fits) in (
       read ++ line ∷ [],
       inl (record {
         first = Follows-first s.longest g.R.Read.remaining known (read ++ line ∷ []) c.advance.new.self follows';
-        part = TakesPart-next s rule p read line c.loop-intake.intake c.take.new.self turned (g.D.Device.taken c.args.out.now) (g.D.Device.taken c.loop-intake.out) (g.D.Device.taken c.write.new.out) stands c.in_err-write.ensures.part;
+        part = TakesPart-next s clocks p read line c.loop-intake.intake c.take.new.self turned (g.D.Device.taken c.args.out.now) (g.D.Device.taken c.loop-intake.out) (g.D.Device.taken c.write.new.out) stands c.in_err-write.ensures.part;
       }),
     ))

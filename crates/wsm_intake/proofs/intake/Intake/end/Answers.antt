@@ -1,12 +1,23 @@
-use Rattle.std.proofs.Common.{◌∙◌, ◌++◌, List, ℕ, ap}
+use Rattle.std.proofs.Common.{◌≡◌, ◌∙◌, ◌++◌, List, ℕ, length, ap}
+use Rattle.wsm_semantics.specs.Lines.{Line}
 use Rattle.wsm_semantics.specs.Text.{line_text}
-use Rattle.wsm_intake.specs.Turns.{line_of}
+use Rattle.wsm_machine.specs.Meaning.{query_of}
+use Rattle.wsm_intake.specs.Intake.{at_end, end_line, events_text, fed_with, kept, said}
+use Rattle.wsm_intake.specs.Turns.{line_of, setting_by}
 use Rattle.wsm_intake.proofs.intake.Intake.end.Goals as goal
 
 pub returns : goal.returns
-returns c = λ s rule p lines fits.
+returns c = λ s clocks p lines fits.
+    let d = p.header.schema in
+    let all = said s d lines in
+    let k = kept (setting_by clocks p) all in
+    let rest = events_text (query_of p) k.fed (at_end k) in
+    let told = c.in_ok-tell_rest.ensures clocks (length d.keys) p k fits.holds.waiting (record { program = fits.holds.told.program; fits = fits.holds.told.fits }) in
+    let numbers : line_of c.totals-totals.result ≡ end_line (query_of p) clocks all =
+    c.totals-totals.ensures p (fed_with k.fed (at_end k)) all (record { program = told.serves.program; fits = told.serves.fits }) fits.taken fits.faults in
     record {
-      text = c.in_ok-end_text.ensures p.header.schema
-          ∙ ap (λ (l : List ℕ). l ++ line_text p.header.schema (line_of c.totals-totals.result)) c.clear.ensures.items;
-      numbers = c.totals-totals.ensures s rule p lines fits;
+      text = c.in_ok-end_text.ensures d
+          ∙ ap (λ (l : List ℕ). l ++ line_text d (line_of c.totals-totals.result)) (told.text ∙ ap (λ (l : List ℕ). l ++ rest) c.clear.ensures.items)
+          ∙ ap (λ (l : Line). rest ++ line_text d l) numbers;
+      numbers = numbers;
     }

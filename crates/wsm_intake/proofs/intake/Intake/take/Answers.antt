@@ -1,54 +1,44 @@
-use Rattle.std.proofs.Common.{rules, ◌≡◌, ◌∙◌, ◌++◌, ◌+◌, ℕ, List, Result, Ok, Err, length, ap, sym, subst}
+use Rattle.std.proofs.Common.{rules, ◌≡◌, ◌∙◌, ◌++◌, ◌+◌, ◌<◌, ◌∷◌, ℕ, List, Ok, length, ap, sym, subst, arith}
 use Rattle.std.proofs.lemmas.Result.{on_ok_weaker}
 use Rattle.wsm_record.specs.Schema.{Declared}
+use Rattle.wsm_admission.specs.Admission.{counter}
 use Rattle.wsm_program.specs.Program.{Program}
 use Rattle.wsm_machine.specs.Meaning.{query_of}
-use Rattle.wsm_lines.specs.Reader.{event_read}
+use Rattle.wsm_lines.specs.Reader.{Follows, event_read}
 use Rattle.wsm_lines.specs.Said.{said_of}
-use Rattle.wsm_intake.specs.Intake.{said, turn_text}
-use Rattle.wsm_intake.specs.Turns.{Adds, Reads, Turned}
+use Rattle.wsm_intake.specs.declared.intake.Intake.{Intake}
+use Rattle.wsm_intake.specs.Intake.{Said, fault_count, kept, said, turn_of, turn_text}
+use Rattle.wsm_intake.specs.Turns.{Goes, setting_by}
+use Rattle.wsm_intake.proofs.Counts.{one_more}
+use Rattle.wsm_intake.proofs.Stamps.{few_stamps}
 use Rattle.wsm_intake.proofs.intake.Intake.take.Goals as goal
 
 pub returns-in-Ok : goal.returns-in-Ok
-returns-in-Ok c = λ s rule p before fits.
+returns-in-Ok c = λ s clocks p before fits.
     let old = c.args.self.now in
     let line = c.args.line.now in
     let d = p.header.schema in
-    let schema : c.schema.result.now ≡ d = c.schema.ensures ∙ ap (λ (p : Program). p.header.schema) fits.told.program in
+    let w = setting_by clocks p in
+    let all = said s d before in
+    let k = kept w all in
+    let e = event_read c.read.new.self in
+    let schema : c.schema.result.now ≡ d = c.schema.ensures ∙ ap (λ (m : Program). m.header.schema) fits.holds.told.program in
+    let is : said_of s d before line ≡ Ok e = ap (λ (x : Declared). said_of s x before line) (sym schema) ∙ c.in-Ok.ensures.event s before fits.reader in
     let sum : c.in-Some.taken ≡ old.taken + 1 = search rules in
-    let mid = record old { told = record old.told { lines = c.clear.new.self }; reader = c.read.new.self; taken = c.in-Some.taken } in
-    let is = ap (λ (x : Declared). said_of s x before line) (sym schema) ∙ c.in-Ok.ensures.event s before fits.reader in
-    let reads : Reads s rule p mid before line (Ok (event_read c.read.new.self)) = record {
-      says = is;
-      told = record { program = fits.told.program; fits = fits.told.fits };
-      reader = c.in-Ok.ensures.follows s before fits.reader (λ h. cc);
-      clocks = fits.clocks;
-      taken = sum ∙ ap (λ (n : ℕ). n + 1) fits.taken;
-      faults = fits.faults;
-    } in
-    on_ok_weaker c.serve.result (λ adds. record {
-      fits = adds.fits;
-      text = adds.text ∙ ap (λ (l : List ℕ). l ++ turn_text (query_of p) rule (said s d before) (said_of s d before line)) c.clear.ensures.items;
-    }) (c.serve.ensures s rule p before line reads)
-
-pub returns-in-Err-Fault : goal.returns-in-Err-Fault
-returns-in-Err-Fault c = λ s rule p before fits.
-    let old = c.args.self.now in
-    let line = c.args.line.now in
-    let d = p.header.schema in
-    let schema : c.schema.result.now ≡ d = c.schema.ensures ∙ ap (λ (p : Program). p.header.schema) fits.told.program in
-    let sum : c.in-Some.taken ≡ old.taken + 1 = search rules in
-    let mid = record old { told = record old.told { lines = c.clear.new.self }; reader = c.read.new.self; taken = c.in-Some.taken } in
-    let is = ap (λ (x : Declared). said_of s x before line) (sym schema) ∙ rw c.in-Err-Fault.field-0-is at (c.in-Err-Fault.ensures.fault s before fits.reader) in
-    let reads : Reads s rule p mid before line (Err c.in-Err-Fault.why) = record {
-      says = is;
-      told = record { program = fits.told.program; fits = fits.told.fits };
-      reader = c.in-Err-Fault.ensures.follows s before fits.reader (λ h. cc);
-      clocks = fits.clocks;
-      taken = sum ∙ ap (λ (n : ℕ). n + 1) fits.taken;
-      faults = fits.faults;
-    } in
-    on_ok_weaker c.refuse.result (λ adds. record {
-      fits = adds.fits;
-      text = adds.text ∙ ap (λ (l : List ℕ). l ++ turn_text (query_of p) rule (said s d before) (said_of s d before line)) c.clear.ensures.items;
-    }) (c.refuse.ensures s rule p before line reads)
+    let number : c.in-Some.taken ≡ length all + 1 = sum ∙ ap (λ (n : ℕ). n + 1) fits.taken in
+    let stamps = few_stamps w all in
+    let few : length k.stamps < c.in-Some.taken = omega (arith, stamps, number) in
+    let mid : Intake = record old { told = record old.told { lines = c.clear.new.self }; reader = c.read.new.self; taken = c.in-Some.taken } in
+    on_ok_weaker c.serve.result (λ goes.
+    let new = c.serve.new.self in
+    let there : Goes clocks p mid new k (turn_of w k (length all + 1) (Ok e)) = subst (λ (n : ℕ). Goes clocks p mid new k (turn_of w k n (Ok e))) number goes in
+    let at : Goes clocks p mid new k (turn_of w k (length all + 1) (said_of s d before line)) = subst (λ (x : Said). Goes clocks p mid new k (turn_of w k (length all + 1) x)) (sym is) there in
+    record {
+      fits = record {
+        holds = record { told = at.holds.told; waiting = at.holds.waiting };
+        reader = subst (λ (t : Intake). Follows s (line ∷ before) t.reader) (sym at.others) (c.in-Ok.ensures.follows s before fits.reader (λ h. cc));
+        taken = ap (λ (t : Intake). t.taken) at.others ∙ number ∙ one_more (length all);
+        faults = ap (λ (t : Intake). t.faults) at.others ∙ fits.faults ∙ ap (λ (x : Said). counter (fault_count (x ∷ all))) (sym is);
+      };
+      text = there.text ∙ ap (λ (l : List ℕ). l ++ turn_text (query_of p) clocks all (Ok e)) c.clear.ensures.items ∙ ap (turn_text (query_of p) clocks all) (sym is);
+    }) (c.serve.ensures clocks p k (record { told = record { program = fits.holds.told.program; fits = fits.holds.told.fits }; waiting = fits.holds.waiting }) few)

@@ -1,5 +1,5 @@
-use Rattle.std.proofs.Common.{◌≡◌, ◌∙◌, ◌++◌, ◌∷◌, ℕ, List, map, sym, ap, subst}
-use Rattle.wsm_record.specs.Event.{Event, event_of}
+use Rattle.std.proofs.Common.{◌≡◌, ◌∙◌, ◌++◌, ◌∷◌, ℕ, List, map, sym, ap, subst, append-nil}
+use Rattle.wsm_record.specs.Event.{event_of}
 use Rattle.wsm_record.specs.Schema.{Declared}
 use Rattle.wsm_semantics.specs.Query.{verdict_on}
 use Rattle.wsm_semantics.specs.Relation.{turn_rows}
@@ -10,9 +10,9 @@ use Rattle.wsm_program.specs.Program.{Program}
 use Rattle.wsm_machine.specs.Meaning.{query_of}
 use Rattle.wsm_engine.specs.declared.reply.Reply.{Reply}
 use Rattle.wsm_engine.specs.Meaning.{reply_to}
-use Rattle.wsm_engine.specs.Meaning as engine
 use Rattle.wsm_intake.specs.declared.told.Told.{Told}
-use Rattle.wsm_intake.specs.Turns.{Serves}
+use Rattle.wsm_intake.specs.Intake.{event_text}
+use Rattle.wsm_intake.specs.Waits.{Serves}
 use Rattle.wsm_intake.proofs.Lines.{joined_lines}
 use Rattle.wsm_intake.proofs.told.Told.feed.Goals as goal
 
@@ -34,5 +34,6 @@ returns c = λ p past serves.
     ∙ ap (λ (rs : List OutRow). mid.lines.items ++ lines_text p.header.schema (map Out rs)) rows in
     record {
       serves = record { program = told.program; fits = told.fits };
-      text = joined_lines p.header.schema old.lines.items mid.lines.items c.rows_text.new.out.items (refusal_lines c.args.number (verdict_on (query_of p) past e)) (map Out (turn_rows (query_of p) past e)) first second;
+      text = joined_lines p.header.schema old.lines.items mid.lines.items c.rows_text.new.out.items (refusal_lines c.args.number (verdict_on (query_of p) past e)) (map Out (turn_rows (query_of p) past e)) first second
+          ∙ ap (λ (l : List ℕ). old.lines.items ++ l) (sym (append-nil (event_text (query_of p) c.args.number past e)));
     }

@@ -1,0 +1,46 @@
+-- What is kept of clocks and of the records that wait for them.
+use Rattle.std.specs.Prelude.{◌≡◌, ℕ, ◌++◌, List, [], ◌∷◌, length, map, Option, Some, None}
+use Rattle.wsm_record.specs.Event.{Event}
+use Rattle.wsm_watermarks.specs.declared.held.Timed.{Timed}
+use Rattle.wsm_watermarks.specs.declared.stamp.Stamp.{Stamp}
+use Rattle.wsm_watermarks.specs.Watermarks.{FitsMarks}
+use Rattle.wsm_program.specs.Program.{Program}
+use Rattle.wsm_machine.specs.Meaning.{query_of}
+use Rattle.wsm_engine.specs.Meaning as engine
+use Rattle.wsm_intake.specs.declared.clocks.Clocks.{Clocks}
+use Rattle.wsm_intake.specs.declared.told.Told.{Told}
+use Rattle.wsm_intake.specs.declared.waiting.Waiting.{Waiting}
+use Rattle.wsm_intake.specs.Numbered.{Numbered, timed}
+use Rattle.wsm_intake.specs.Intake.{Kept, events_text, fed_with, numbered, went_by}
+
+-- the engine of the program, after a history of events
+pub record Serves (p : Program) (t : Told) (past : List Event) : Type 0 where
+  pub program : t.engine.program ≡ p
+  pub fits : engine.Fits t.engine past
+
+-- some events more, with the bytes of their turns behind those that were there
+pub record Tells (p : Program) (old new : Told) (past : List Event) (gs : List Numbered) : Type 0 where
+  pub serves : Serves p new (fed_with past gs)
+  pub text : new.lines.items ≡ old.lines.items ++ events_text (query_of p) past gs
+
+-- the watermark goes by these clocks, of which there are so many; the stamps came, that watermark was told, and these records wait
+pub record Hears (c : Clocks) (count : ℕ) (w : Waiting) (stamps : List Stamp) (told : ℕ) (waits : List (Timed Numbered)) : Type 0 where
+  pub by : w.marks.rule ≡ c.rule
+  pub clocks : length w.marks.table.said ≡ count
+  pub fits : FitsMarks w.marks stamps
+  pub ahead : w.ahead ≡ c.ahead
+  pub room : w.held.room ≡ c.room
+  pub last : w.told ≡ told
+  pub rows : w.held.rows ≡ waits
+
+-- without clocks none waits
+abbrev pub Hear : Option Clocks → ℕ → Option Waiting → List Stamp → ℕ → List (Timed Numbered) → Type 0
+Hear None count None stamps told waits = waits ≡ []
+Hear None count (Some w) stamps told waits = ⊥
+Hear (Some c) count None stamps told waits = ⊥
+Hear (Some c) count (Some w) stamps told waits = Hears c count w stamps told waits
+
+-- a record has come with its stamp: what goes on was told, and the rest waits
+pub record Takes (clocks : Option Clocks) (count : ℕ) (p : Program) (k : Kept) (new : Option Waiting) (old_told new_told : Told) (stamp : Stamp) (number : ℕ) (e : Event) : Type 0 where
+  pub hears : let went = went_by clocks k stamp (timed stamp.time number e) in Hear clocks count new (stamp ∷ k.stamps) went.mark went.held
+  pub tells : Tells p old_told new_told k.fed (map (numbered number) (went_by clocks k stamp (timed stamp.time number e)).out)

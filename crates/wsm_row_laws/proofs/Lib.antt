@@ -1,0 +1,4 @@
+pub mod NumberTexts
+pub mod PlainTexts
+pub mod ReadRows
+pub mod SameTurns

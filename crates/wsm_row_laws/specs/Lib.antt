@@ -1,0 +1,2 @@
+pub mod SaidRows
+pub mod SameRuns
