@@ -4,4 +4,3 @@ pub mod RowTurns
 pub mod Texts
 pub mod SameText
 pub mod RunsBeforeRows
-pub mod SameLog

@@ -18,28 +18,12 @@ use Rattle.wsm.specs.declared.end.End.TheVariants.{Refused, Rejected, Memory, Re
 use Rattle.wsm.specs.Begun.{IsAcceptedQuery}
 use Rattle.wsm.specs.Ends.{hides_memory}
 use Rattle.wsm.specs.Inputs.{EndsAs, EndsBefore, IsAccepted, Means, judged}
-use Rattle.wsm.specs.Judged.{EndsBy, RejectsBy, compiled}
+use Rattle.wsm.specs.Judged.{compiled}
 use Rattle.wsm.proofs.Texts.{Keeps-same}
 
 was_rejected : {A : Type 0} (judged : Result A Rejection) (r : Rejection) → judged ≡ Err r → is_ok judged ≡ true → ⊥
 was_rejected (Ok x) r is ok = cc
 was_rejected (Err s) r is ok = cc
-
--- ---- how the judging of an input ends
-
-pub refused_before : (i : Input) (e : End) → EndsBy (judged i) e → EndsBefore i e
-refused_before i (Refused why) ends = ends
-refused_before i (Rejected why) ends = absurd ends
-refused_before i Memory ends = tt
-refused_before i ReadFailed ends = absurd ends
-refused_before i WriteFailed ends = absurd ends
-
-pub rejected_before : (i : Input) (p : Program) (e : End) → judged i ≡ Ok p → RejectsBy (judge p) e → EndsBefore i e
-rejected_before i p (Refused why) read ends = absurd ends
-rejected_before i p (Rejected why) read ends = (p, read, ends)
-rejected_before i p Memory read ends = tt
-rejected_before i p ReadFailed read ends = absurd ends
-rejected_before i p WriteFailed read ends = absurd ends
 
 -- what means something is an accepted program
 means_read : (i : Input) (m : Meant) → Means i m → (p : Program) × IsAccepted i p

@@ -1,5 +1,5 @@
 -- Queries with the same lines for every input have the same runs.
-use Rattle.std.proofs.Common.{◌≡◌, ◌∙◌, ◌++◌, ◌∷◌, ℕ, List, [], length, take, Option, Ok, refl, sym, ap, subst, inl, inr, arith, length-append}
+use Rattle.std.proofs.Common.{◌≡◌, ◌∙◌, ◌++◌, ◌∷◌, ℕ, List, [], length, take, Option, refl, sym, ap, subst, inl, inr, arith, length-append}
 use Rattle.std.proofs.Math.Seq.{take-append_seam}
 use Rattle.std.proofs.lemmas.List.{append_cancel_left}
 use Rattle.wsm_semantics.specs.Query.{Query}
@@ -9,7 +9,6 @@ use Rattle.wsm_semantics.specs.declared.ending.Totals.{Totals}
 use Rattle.wsm_csv.specs.Device.{TakesPart}
 use Rattle.std.specs.Io.KnownBytes.{Appends}
 use Rattle.wsm_query.specs.Tree as tree
-use Rattle.wsm_program.specs.Program.{Program}
 use Rattle.wsm_machine.specs.Meaning.{query_of}
 use Rattle.wsm_compiler.specs.Program.{program_of}
 use Rattle.wsm_compiler.specs.Means.{meant}
@@ -18,7 +17,6 @@ use Rattle.wsm_compiler.proofs.Texts.{parsed_is_spelt}
 use Rattle.wsm.specs.declared.end.End.{End}
 use Rattle.wsm.specs.declared.end.End.TheVariants.{Refused, Rejected, Memory, ReadFailed, WriteFailed}
 use Rattle.wsm.specs.Begun.{IsAcceptedQuery}
-use Rattle.wsm.specs.Judged.{text_judged}
 use Rattle.wsm.specs.Written.{Cells, Completes, BreaksOff, EndsEarly, input_text, rows_of, turns_text}
 use Rattle.wsm.proofs.Judgements.{judged_ok}
 
@@ -86,7 +84,3 @@ pub text_ends_early : (text : List ℕ) (q : tree.Query) → IsAcceptedQuery tex
     → (cells : List Cells) × EndsEarly known (query_of (program_of q)) cells old new end → (cells : List Cells) × EndsEarly known (meant q) cells old new end
 text_ends_early text q a known old new end (cells, h) =
     (cells, EndsEarly-same (query_of (program_of q)) (meant q) refl (text_lines text q a) known cells old new end h)
-
--- a text is of one query, and so of one program
-pub same_program : (text : List ℕ) (q : tree.Query) (p : Program) → text_judged text ≡ Ok q → (x : tree.Query) × (text_judged text ≡ Ok x) × (p ≡ program_of x) → p ≡ program_of q
-same_program text q p judged (x, said, is) = let same : x ≡ q = cc in is ∙ ap program_of same

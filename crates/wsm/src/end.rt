@@ -9,7 +9,6 @@ use std::fmt;
 use wsm_check::{CheckFault, CheckRefusal, Part};
 use wsm_csv::{DeviceFault, ReadEnd};
 use wsm_deal::{DealEnd, SharesRefusal};
-use wsm_intake::LogEnd;
 use wsm_program::DecodeRefusal;
 use wsm_rules::{Rejection, Rule};
 use wsm_tokens::{Fault, ParseRefusal, Position};
@@ -196,21 +195,6 @@ impl From<ReadEnd> for End {
         match end {
             ReadEnd::Failed => End::ReadFailed,
             ReadEnd::Memory => End::Memory,
-        }
-    }
-}
-
-impl From<LogEnd> for End {
-    ghost use Rattle.std.specs.Prelude.{◌≡◌};
-    ghost use Rattle.wsm.specs.Logs.{end_of_log};
-
-    ghost from_gives = { λ r e. e ≡ end_of_log r };
-
-    fn from(end: LogEnd) -> End {
-        match end {
-            LogEnd::Memory => End::Memory,
-            LogEnd::ReadFailed => End::ReadFailed,
-            LogEnd::WriteFailed => End::WriteFailed,
         }
     }
 }

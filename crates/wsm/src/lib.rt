@@ -3,8 +3,8 @@
 //! [`run_query`] reads and checks the text of a query, compiles it, has the program verified, takes
 //! the turn of each row of a reader, and gives a device the lines of each turn and a last one.
 //! [`run_program`] does so from the bytes of a program. [`run_input`] takes either, an [`Input`], and
-//! [`Rows`] that stay with the caller, and says what ended them; [`accepted_of`] and [`run_log`] run one
-//! over the lines of a log. A whole program:
+//! [`Rows`] that stay with the caller, and says what ended them; [`accepted_of`] gives the program of one.
+//! A whole program:
 //!
 //! ```rust
 //! use wsm::{End, Fault, Guarded, InputRefusal, Position, compile_text, run_program, run_query};
@@ -63,7 +63,6 @@ pub use end::{End, InputRefusal, REJECTED_STATUS, status_of};
 pub use input::Input;
 pub use inputs::accepted_of;
 pub use judging::{judge, judge_input};
-pub use logs::run_log;
 pub use migrating::migrate;
 pub use run::{run_input, run_program, run_query};
 pub use wsm_check::{CheckFault, CodeLimit, Part};
@@ -80,7 +79,6 @@ mod end;
 mod input;
 mod inputs;
 mod judging;
-mod logs;
 mod migrating;
 mod run;
 mod turns;

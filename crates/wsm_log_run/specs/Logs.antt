@@ -1,10 +1,10 @@
 -- How a run over a log ends early.
 use Rattle.std.specs.Prelude.{◌≡◌, ℕ, List, Option}
-use Rattle.wsm_watermarks.specs.declared.rule.Rule.{Rule}
 use Rattle.wsm_semantics.specs.Query.{Query}
 use Rattle.wsm_lines.specs.declared.source.Source.{Source}
-use Rattle.wsm_intake.specs.declared.run.LogEnd.{LogEnd}
-use Rattle.wsm_intake.specs.declared.run.LogEnd.TheVariants as log
+use Rattle.wsm_log_rows.specs.declared.end.LogEnd.{LogEnd}
+use Rattle.wsm_log_rows.specs.declared.end.LogEnd.TheVariants as log
+use Rattle.wsm_intake.specs.declared.clocks.Clocks.{Clocks}
 use Rattle.wsm_intake.specs.Run.{LogBroken}
 use Rattle.wsm.specs.declared.end.End.{End}
 use Rattle.wsm.specs.declared.end.End.TheVariants.{Memory, ReadFailed, WriteFailed}
@@ -15,5 +15,5 @@ end_of_log log.ReadFailed = ReadFailed
 end_of_log log.WriteFailed = WriteFailed
 
 -- a beginning of what the source and the query mean was written
-abbrev pub LogStops : Option (List ℕ) → Source → Option Rule → Option (List ℕ) → Option (List ℕ) → Query → End → Type 0
-LogStops known s rule old new q end = (e : LogEnd) × (end ≡ end_of_log e) × LogBroken known s rule old new q e
+abbrev pub LogStops : Option (List ℕ) → Source → Option Clocks → Option (List ℕ) → Option (List ℕ) → Query → End → Type 0
+LogStops known s clocks old new q end = (e : LogEnd) × (end ≡ end_of_log e) × LogBroken known s clocks old new q e

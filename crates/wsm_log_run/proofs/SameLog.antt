@@ -15,12 +15,13 @@ use Rattle.wsm_semantics.specs.Firings.{firings_so_far}
 use Rattle.wsm_semantics.specs.Lines.{Row, Line, Out, Faulty, Refused, End, events, refusal_lines, turn_lines, lines_so_far, end_line, all_lines}
 use Rattle.wsm_semantics.specs.Text.{line_text, lines_text}
 use Rattle.wsm_csv.specs.Device.{TakesPart}
-use Rattle.wsm_watermarks.specs.declared.rule.Rule.{Rule}
 use Rattle.wsm_lines.specs.declared.source.Source.{Source}
 use Rattle.wsm_intake.specs.Intake as intake
-use Rattle.wsm_intake.specs.Intake.{Said, event_text, events_text, fed, raised, turn_text, turns_text, text, fault_count}
-use Rattle.wsm_intake.specs.declared.run.LogEnd.{LogEnd}
-use Rattle.wsm_intake.specs.declared.run.LogEnd.TheVariants as log
+use Rattle.wsm_intake.specs.declared.clocks.Clocks.{Clocks}
+use Rattle.wsm_intake.specs.Numbered.{Numbered}
+use Rattle.wsm_intake.specs.Intake.{Said, at_end, end_text, event_text, events_text, fault_count, fed_at_end, kept, setting_of, text, turn_of, turn_text, turns_text}
+use Rattle.wsm_log_rows.specs.declared.end.LogEnd.{LogEnd}
+use Rattle.wsm_log_rows.specs.declared.end.LogEnd.TheVariants as log
 use Rattle.wsm_intake.specs.Run.{BreaksOff, Completes, EndsEarly, LogBroken, LogWritten, read_by}
 use Rattle.wsm_query.specs.Tree as tree
 use Rattle.wsm_machine.specs.Meaning.{query_of}
@@ -92,44 +93,51 @@ module _ (q : Query) (sel : ℕ → List Value → Bool) (row : ℕ → List Dat
   event_same : (n : ℕ) (past : List Event) (e : Event) → event_text q n past e ≡ event_text m n past e
   event_same n past e = ap (λ (rs : List OutRow). lines_text q.declared (refusal_lines n (verdict_on q past e) ++ map Out rs)) (rows_same past e)
 
-  events_same : (n : ℕ) (past es : List Event) → events_text q n past es ≡ events_text m n past es
-  events_same n past [] = refl
-  events_same n past (e ∷ es) = (λ i. events_same n past es i ++ event_same n (es ++ past) e i)
+  events_same : (past : List Event) (gs : List Numbered) → events_text q past gs ≡ events_text m past gs
+  events_same past [] = refl
+  events_same past (g ∷ gs) = (λ i. event_same g.number past g.event i ++ events_same (g.event ∷ past) gs i)
 
-  turn_text_same : (rule : Option Rule) (before : List Said) (x : Said) → turn_text q rule before x ≡ turn_text m rule before x
-  turn_text_same rule before (Err why) = refl
-  turn_text_same rule before (Ok e) = events_same (length before + 1) (fed rule q.declared before) (e ∷ raised rule q.declared before e)
+  turn_text_same : (clocks : Option Clocks) (before : List Said) (x : Said) → turn_text q clocks before x ≡ turn_text m clocks before x
+  turn_text_same clocks before (Err why) = refl
+  turn_text_same clocks before (Ok x) =
+      let k = kept (setting_of clocks q) before in
+      events_same k.fed (turn_of (setting_of clocks q) k (length before + 1) (Ok x)).goes
 
-  turns_same : (rule : Option Rule) (all : List Said) → turns_text q rule all ≡ turns_text m rule all
-  turns_same rule [] = refl
-  turns_same rule (x ∷ before) = (λ i. turns_same rule before i ++ turn_text_same rule before x i)
+  turns_same : (clocks : Option Clocks) (all : List Said) → turns_text q clocks all ≡ turns_text m clocks all
+  turns_same clocks [] = refl
+  turns_same clocks (x ∷ before) = (λ i. turns_same clocks before i ++ turn_text_same clocks before x i)
 
-  end_same : (rule : Option Rule) (all : List Said) → intake.end_line q rule all ≡ intake.end_line m rule all
-  end_same rule all =
-      let past = fed rule q.declared all in
+  end_same : (clocks : Option Clocks) (all : List Said) → intake.end_line q clocks all ≡ intake.end_line m clocks all
+  end_same clocks all =
+      let past = fed_at_end q clocks all in
       ap (λ (n : ℕ). End (length all) (admitted_count q.clock q.shape q.declared past) (counter (late_count q.clock q.shape q.declared past)) (counter (fault_count all + refused_count q.clock q.shape q.declared past)) n) (panes_same past)
 
-  text_same : (rule : Option Rule) (all : List Said) → text q rule all ≡ text m rule all
-  text_same rule all = (λ i. turns_same rule all i ++ line_text q.declared (end_same rule all i))
+  end_text_same : (clocks : Option Clocks) (all : List Said) → end_text q clocks all ≡ end_text m clocks all
+  end_text_same clocks all =
+      let k = kept (setting_of clocks q) all in
+      (λ i. events_same k.fed (at_end k) i ++ line_text q.declared (end_same clocks all i))
 
-  Completes-same : (known : Option (List ℕ)) (s : Source) (rule : Option Rule) (read : List (List ℕ)) (old new : Option (List ℕ)) (totals : Totals) → Completes known s rule q read old new totals → Completes known s rule m read old new totals
-  Completes-same known s rule read old new totals h = record { all = h.all; text = subst (Appends old new) (text_same rule (read_by s q read)) h.text; numbers = h.numbers ∙ end_same rule (read_by s q read) }
+  text_same : (clocks : Option Clocks) (all : List Said) → text q clocks all ≡ text m clocks all
+  text_same clocks all = (λ i. turns_same clocks all i ++ end_text_same clocks all i)
 
-  BreaksOff-same : (known : Option (List ℕ)) (s : Source) (rule : Option Rule) (read : List (List ℕ)) (old new : Option (List ℕ)) → BreaksOff known s rule q read old new → BreaksOff known s rule m read old new
-  BreaksOff-same known s rule read old new h = record { first = h.first; text = subst (Appends old new) (turns_same rule (read_by s q read)) h.text }
+  Completes-same : (known : Option (List ℕ)) (s : Source) (clocks : Option Clocks) (read : List (List ℕ)) (old new : Option (List ℕ)) (totals : Totals) → Completes known s clocks q read old new totals → Completes known s clocks m read old new totals
+  Completes-same known s clocks read old new totals h = record { all = h.all; text = subst (Appends old new) (text_same clocks (read_by s q read)) h.text; numbers = h.numbers ∙ end_same clocks (read_by s q read) }
 
-  EndsEarly-same : (known : Option (List ℕ)) (s : Source) (rule : Option Rule) (read : List (List ℕ)) (old new : Option (List ℕ)) (end : LogEnd) → EndsEarly known s rule q read old new end → EndsEarly known s rule m read old new end
-  EndsEarly-same known s rule read old new log.Memory h = BreaksOff-same known s rule read old new h
-  EndsEarly-same known s rule read old new log.ReadFailed h = BreaksOff-same known s rule read old new h
-  EndsEarly-same known s rule read old new log.WriteFailed (inl h) = inl (record { first = h.first; part = subst (TakesPart old new) (turns_same rule (read_by s q read)) h.part })
-  EndsEarly-same known s rule read old new log.WriteFailed (inr h) = inr (record { all = h.all; part = subst (TakesPart old new) (text_same rule (read_by s q read)) h.part })
+  BreaksOff-same : (known : Option (List ℕ)) (s : Source) (clocks : Option Clocks) (read : List (List ℕ)) (old new : Option (List ℕ)) → BreaksOff known s clocks q read old new → BreaksOff known s clocks m read old new
+  BreaksOff-same known s clocks read old new h = record { first = h.first; text = subst (Appends old new) (turns_same clocks (read_by s q read)) h.text }
 
-pub log_written : (text : List ℕ) (q : tree.Query) → IsAcceptedQuery text q → (known : Option (List ℕ)) (s : Source) (rule : Option Rule) (old new : Option (List ℕ)) (totals : Totals)
-    → LogWritten known s rule old new (query_of (program_of q)) totals → LogWritten known s rule old new (meant q) totals
-log_written text q a known s rule old new totals (read, h) =
-    (read, Completes-same (query_of (program_of q)) (meant q).selects (meant q).row (same.text_lines text q a) known s rule read old new totals h)
+  EndsEarly-same : (known : Option (List ℕ)) (s : Source) (clocks : Option Clocks) (read : List (List ℕ)) (old new : Option (List ℕ)) (end : LogEnd) → EndsEarly known s clocks q read old new end → EndsEarly known s clocks m read old new end
+  EndsEarly-same known s clocks read old new log.Memory h = BreaksOff-same known s clocks read old new h
+  EndsEarly-same known s clocks read old new log.ReadFailed h = BreaksOff-same known s clocks read old new h
+  EndsEarly-same known s clocks read old new log.WriteFailed (inl h) = inl (record { first = h.first; part = subst (TakesPart old new) (turns_same clocks (read_by s q read)) h.part })
+  EndsEarly-same known s clocks read old new log.WriteFailed (inr h) = inr (record { all = h.all; part = subst (TakesPart old new) (text_same clocks (read_by s q read)) h.part })
 
-pub log_broken : (text : List ℕ) (q : tree.Query) → IsAcceptedQuery text q → (known : Option (List ℕ)) (s : Source) (rule : Option Rule) (old new : Option (List ℕ)) (end : LogEnd)
-    → LogBroken known s rule old new (query_of (program_of q)) end → LogBroken known s rule old new (meant q) end
-log_broken text q a known s rule old new end (read, h) =
-    (read, EndsEarly-same (query_of (program_of q)) (meant q).selects (meant q).row (same.text_lines text q a) known s rule read old new end h)
+pub log_written : (text : List ℕ) (q : tree.Query) → IsAcceptedQuery text q → (known : Option (List ℕ)) (s : Source) (clocks : Option Clocks) (old new : Option (List ℕ)) (totals : Totals)
+    → LogWritten known s clocks old new (query_of (program_of q)) totals → LogWritten known s clocks old new (meant q) totals
+log_written text q a known s clocks old new totals (read, h) =
+    (read, Completes-same (query_of (program_of q)) (meant q).selects (meant q).row (same.text_lines text q a) known s clocks read old new totals h)
+
+pub log_broken : (text : List ℕ) (q : tree.Query) → IsAcceptedQuery text q → (known : Option (List ℕ)) (s : Source) (clocks : Option Clocks) (old new : Option (List ℕ)) (end : LogEnd)
+    → LogBroken known s clocks old new (query_of (program_of q)) end → LogBroken known s clocks old new (meant q) end
+log_broken text q a known s clocks old new end (read, h) =
+    (read, EndsEarly-same (query_of (program_of q)) (meant q).selects (meant q).row (same.text_lines text q a) known s clocks read old new end h)

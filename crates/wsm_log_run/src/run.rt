@@ -1,0 +1,55 @@
+//! Runs over logs.
+
+ghost use Rattle.std.specs.Prelude.{◌≡◌, false};
+ghost use Rattle.wsm_intake.specs.Clocks.{AreClocks};
+ghost use Rattle.wsm_intake.specs.Run.{LogWritten};
+ghost use Rattle.wsm.specs.declared.input.Input.{Input as AnyInput};
+ghost use Rattle.wsm.specs.Inputs.{EndsAs, IsAccepted};
+ghost use Rattle.wsm_log_run.specs.Logs.{LogStops, end_of_log};
+
+use std::alloc::Global;
+use std::io::Read;
+use wsm::{Device, End, Totals};
+use wsm_intake::{Clocks, run_log as run_intake};
+use wsm_lines::Source;
+use wsm_log_rows::LogEnd;
+use wsm_rules::Verified;
+
+/// Runs an accepted program over the lines of a log, by a source that says how a line is read, and with the watermarks that
+/// the log's clocks make, where it has any. Each line is read and its turn taken, and the device is given what is written for it before the
+/// next line is asked for. At last it is given the end row, whose numbers are answered, and is flushed.
+///
+/// # Errors
+///
+/// After [`End::Memory`] or [`End::ReadFailed`] the device took the text of the first lines, that of each turn whole; after
+/// [`End::WriteFailed`] it took a beginning of the text. No other end comes.
+pub fn run_log<R: Read + Drop, D: Device>(
+    alloc: Global,
+    verified: Verified,
+    source: Source,
+    clocks: Option<Clocks>,
+    reader: R,
+    out: &mut D,
+) -> Result<Totals, End>
+    requires works { D.has_failed out.old ≡ false }
+    requires clocks { AreClocks clocks }
+    ensures { (input : AnyInput) → IsAccepted input verified →
+        EndsAs input (LogWritten (R.remaining reader) source clocks (D.taken out.old) (D.taken out.new)) (LogStops (R.remaining reader) source clocks (D.taken out.old) (D.taken out.new))
+        (D.taken out.old) (D.taken out.new) (D.is_flushed out.new) (D.has_failed out.new) result }
+{
+    match run_intake(alloc, verified, source, clocks, reader, out) {
+        Ok(totals) => Ok(totals),
+        Err(end) => Err(end_of_log(end)),
+    }
+}
+
+/// The end of a run that a log's run ends with.
+pub fn end_of_log(end: LogEnd) -> End
+    ensures { result ≡ end_of_log end }
+{
+    match end {
+        LogEnd::Memory => End::Memory,
+        LogEnd::ReadFailed => End::ReadFailed,
+        LogEnd::WriteFailed => End::WriteFailed,
+    }
+}
