@@ -1,0 +1,94 @@
+-- A keeper's cut, and its end.
+use Rattle.std.proofs.Common.{◌≡◌, ℕ, List, [], ◌++◌, map, ◌-ℤ◌, Result, Ok, Err, OnOk, refl, sym, ap, subst, ◌∙◌}
+use Rattle.std.proofs.lemmas.List.{map-append}
+use Rattle.std.specs.Prelude.{filter}
+use Rattle.wsm_semantics.specs.Query.{Query}
+use Rattle.wsm_semantics.specs.FromWatermark.{Times, dropped_time, dropped_times}
+use Rattle.wsm_keep.specs.declared.keeper.Keeper.{Keeper}
+use Rattle.wsm_record.specs.declared.words.Form.{Form}
+use Rattle.wsm_record.specs.declared.words.Form.TheVariants.{Panes, Istream, Dstream, Rstream}
+use Rattle.wsm_keep.specs.Staying.{events_in, row_of, thinned, done_by, staying, staying_for, staying_for_panes}
+use Rattle.wsm_keep.specs.Holds.{Written, read, text_of, times_in, Holds}
+use Rattle.wsm_keep.specs.Keeper.{says_event, Fits, IsCut, IsOf, IsLawfulQuery, HasSettings}
+use Rattle.wsm_keep.proofs.Thinning.{thinned_same}
+use Rattle.wsm_keep.proofs.Queues.{queue_decides, holds_cut, queue_staying}
+use Rattle.wsm_keep.proofs.Behind.{behind_texts}
+
+pub settings_of : (q : Query) (old new : Keeper) → HasSettings old new → IsOf q old → IsOf q new
+settings_of q old new same of = record { shape = same.shape ∙ of.shape; lateness = same.lateness ∙ of.lateness; form = same.form ∙ of.form }
+
+module _ (q : Query) (lawful : IsLawfulQuery q) (k new : Keeper) (rows : List Written) (fits : Fits q k rows) (x : Times)
+    (computed : (key : ℕ) → x key ≡ dropped_time k.shape (k.before -ℤ k.lateness) (times_in key k.queue)) where
+  abbrev older : List Written
+  older = fits.queues.older
+
+  abbrev limits : Times
+  limits = dropped_times q (events_in read older)
+
+  limits_are : (key : ℕ) → x key ≡ limits key
+  limits_are key =
+      computed key
+      ∙ (λ i. dropped_time (fits.of.shape i) (fits.queues.before i -ℤ fits.of.lateness i) (times_in key k.queue))
+      ∙ sym (queue_decides q lawful.shape older k.queue fits.queues.holds key)
+
+  pub cut_is : HasSettings k new → new.since ≡ k.since → new.before ≡ k.before → new.queue ≡ thinned done_by x [] k.queue → IsCut q new rows
+  cut_is same since before queue =
+      let are : new.queue ≡ thinned done_by limits [] k.queue = queue ∙ thinned_same done_by x limits limits_are [] k.queue in
+      record {
+        fits = record {
+          of = settings_of q k new same fits.of;
+          queues = record {
+            newer = fits.queues.newer;
+            older = older;
+            split = fits.queues.split;
+            since = since ∙ fits.queues.since;
+            holds = subst (Holds q older) (sym are) (holds_cut q lawful.shape older k.queue fits.queues.holds);
+            before = before ∙ fits.queues.before;
+            stays = fits.queues.stays;
+            alone = λ panes. since ∙ fits.queues.alone panes;
+          };
+        };
+        texts = ap (map row_of) are ∙ queue_staying q lawful.shape older k.queue fits.queues.holds;
+      }
+
+-- behind a cut all that waits stays
+pub end_is : (q : Query) (k : Keeper) (rows : List Written) → IsCut q k rows → map row_of (k.since ++ k.queue) ≡ map text_of (staying read q rows)
+end_is q k rows cut =
+    let queues = cut.fits.queues in
+    map-append row_of k.since k.queue
+    ∙ (λ i. (ap (map row_of) queues.since ∙ behind_texts q queues.newer queues.older) i ++ cut.texts i)
+    ∙ sym (map-append text_of (filter says_event queues.newer) (staying_for_panes read q queues.older))
+    ∙ ap (map text_of) (sym queues.stays)
+
+-- no row has come
+pub none_stay : (q : Query) (form : Form) → staying_for form read q [] ≡ []
+none_stay q Panes = refl
+none_stay q Istream = refl
+none_stay q Dstream = refl
+none_stay q Rstream = refl
+
+-- when its queue is cut is no matter
+pub with_most : (q : Query) (k : Keeper) (most : ℕ) (rows : List Written) → Fits q k rows → Fits q (record k { most = most }) rows
+with_most q k most rows fits = record {
+  of = record { shape = fits.of.shape; lateness = fits.of.lateness; form = fits.of.form };
+  queues = record {
+    newer = fits.queues.newer;
+    older = fits.queues.older;
+    split = fits.queues.split;
+    since = fits.queues.since;
+    holds = fits.queues.holds;
+    before = fits.queues.before;
+    stays = fits.queues.stays;
+    alone = fits.queues.alone;
+  };
+}
+
+-- ---- where all went well
+
+pub on_ok : {T E A B : Type 0} (r : Result T E) → (A → B) → OnOk r A → OnOk r B
+on_ok (Ok x) f a = f a
+on_ok (Err e) f a = a
+
+pub on_ok_all : {T E A B C D : Type 0} (r : Result T E) → (A → B → C → D) → OnOk r A → OnOk r B → OnOk r C → OnOk r D
+on_ok_all (Ok x) f a b c = f a b c
+on_ok_all (Err e) f a b c = a

@@ -1,0 +1,11 @@
+pub mod StayingEvents
+pub mod NextLines
+pub mod Thinning
+pub mod Settled
+pub mod Queues
+pub mod Items
+pub mod Behind
+pub mod Cuts
+pub mod OfKeys
+pub mod Natural
+pub mod Events

@@ -1,0 +1,6 @@
+pub mod Staying
+pub mod GoesOn
+pub mod Holds
+pub mod Items
+pub mod Keeper
+pub mod OfKeys

@@ -1,0 +1,169 @@
+//! What is kept of the rows so far.
+
+ghost use Rattle.std.specs.Prelude.{◌≡◌, ◌∷◌, List, [], Ok, map, unwrap_or, pos, ◌-ℤ◌, ◌≤ℤ◌, IfOk, IfSome, OnOk};
+ghost use Rattle.wsm_record.specs.Event.{Event as AnyEvent};
+ghost use Rattle.wsm_windows.specs.Windows.{IsShape, IsSpan};
+ghost use Rattle.wsm_semantics.specs.Query.{Query, mark};
+ghost use Rattle.wsm_keep.specs.Staying.{row_of, staying};
+ghost use Rattle.wsm_keep.specs.Holds.{Written, read, text_of};
+ghost use Rattle.wsm_keep.specs.Keeper.{Fits, HasSettings, IsCut, IsLawfulQuery, IsTold, queue_at, queued_if, since_at};
+
+use crate::cut::firsts_at;
+use crate::queue::Queue;
+use crate::what::What;
+use std::alloc::{AllocError, Global};
+use std::mem;
+use wsm_record::Form;
+use wsm_windows::{Shape, is_time};
+
+// How many rows are in a queue at least before it is cut.
+const FEW: usize = 4096;
+
+/// What is told of an event: what it does, the watermark before where the event raises it, and the watermark then.
+#[derive(Clone, Copy)]
+pub struct Judged {
+    pub what: What,
+    pub rise: Option<i64>,
+    pub mark: i64,
+}
+
+/// The rows so far that may stay: where panes are written those that do something, and for streams all events since the last
+/// rise of the watermark, behind what was queued before it.
+#[derive(Drop)]
+pub struct Keeper {
+    shape: Shape,
+    lateness: i64,
+    form: Form,
+    queue: Queue,
+    since: Queue,
+    // The watermark before the last rise, or that of now where panes are written.
+    before: i64,
+    // How many rows the queue may have before it is cut.
+    most: usize,
+}
+
+impl Keeper {
+    /// Before the first row, of a query that begins at a watermark.
+    pub fn open(alloc: Global, shape: Shape, lateness: i64, form: Form, start: i64) -> Keeper
+        ensures shape { result.shape ≡ shape }
+        ensures lateness { result.lateness ≡ lateness }
+        ensures fits { (q : Query) → IsLawfulQuery q → shape ≡ q.shape → lateness ≡ q.clock.lateness → form ≡ q.form → start ≡ mark q [] → Fits q result [] }
+    {
+        Keeper {
+            shape,
+            lateness,
+            form,
+            queue: Queue::new(alloc),
+            since: Queue::new(alloc),
+            before: start,
+            most: FEW,
+        }
+    }
+
+    /// Takes the next row that is an event, with what is told of it.
+    pub fn take(&mut self, judged: Judged, text: Vec<u8>) -> Result<(), AllocError>
+        requires shape { IsShape self.old.shape }
+        requires lateness { IsSpan self.old.lateness }
+        ensures shape { self.new.shape ≡ self.old.shape }
+        ensures lateness { self.new.lateness ≡ self.old.lateness }
+        ensures fits { (q : Query) (rows : List Written) (e : AnyEvent) → IsLawfulQuery q → Fits q self.old rows → IsTold q rows e judged → OnOk result (Fits q self.new ((Ok e, text.items) ∷ rows)) }
+    {
+        self.queue_row(judged, text)?;
+        if self.most <= self.queue.len() {
+            self.cut()?;
+            self.most = self.queue.len().saturating_mul(2).max(FEW);
+        }
+        Ok(())
+    }
+
+    // Queues a row.
+    fn queue_row(&mut self, judged: Judged, text: Vec<u8>) -> Result<(), AllocError>
+        ensures shape { self.new.shape ≡ self.old.shape }
+        ensures lateness { self.new.lateness ≡ self.old.lateness }
+        ensures fits { (q : Query) (rows : List Written) (e : AnyEvent) → IsLawfulQuery q → Fits q self.old rows → IsTold q rows e judged → OnOk result (Fits q self.new ((Ok e, text.items) ∷ rows)) }
+    {
+        match self.form {
+            Form::Panes => self.queue_for_panes(judged, text),
+            _ => self.queue_for_streams(judged, text),
+        }
+    }
+
+    // Queues a row that does something, where panes are written.
+    fn queue_for_panes(&mut self, judged: Judged, text: Vec<u8>) -> Result<(), AllocError>
+        ensures settings { HasSettings self.old self.new }
+        ensures since { self.new.since ≡ self.old.since }
+        ensures before { self.new.before ≡ judged.mark }
+        ensures queue { OnOk result (self.new.queue ≡ queued_if judged.what text.items self.old.queue) }
+    {
+        self.before = judged.mark;
+        match judged.what {
+            What::Idle => Ok(()),
+            what => self.queue.push(what, text),
+        }
+    }
+
+    // Has a row wait for the next rise. At a rise all that waited are queued.
+    fn queue_for_streams(&mut self, judged: Judged, text: Vec<u8>) -> Result<(), AllocError>
+        ensures settings { HasSettings self.old self.new }
+        ensures before { OnOk result (self.new.before ≡ unwrap_or judged.rise self.old.before) }
+        ensures queue { OnOk result (self.new.queue ≡ queue_at judged.rise self.old.since self.old.queue) }
+        ensures since { OnOk result (self.new.since ≡ (judged.what, text.items) ∷ since_at judged.rise self.old.since) }
+    {
+        if let Some(before) = judged.rise {
+            self.before = before;
+            let alloc = self.queue.allocator();
+            let since = mem::replace(&mut self.since, Queue::new(alloc));
+            self.queue.append(since)?;
+        }
+        self.since.push(judged.what, text)
+    }
+
+    // Cuts the queue.
+    fn cut(&mut self) -> Result<(), AllocError>
+        requires shape { IsShape self.old.shape }
+        requires lateness { IsSpan self.old.lateness }
+        ensures shape { self.new.shape ≡ self.old.shape }
+        ensures lateness { self.new.lateness ≡ self.old.lateness }
+        ensures since { self.new.since ≡ self.old.since }
+        ensures cut { (q : Query) (rows : List Written) → IsLawfulQuery q → Fits q self.old rows → OnOk result (IsCut q self.new rows) }
+    {
+        let Some(expired) = expired_at(self.before, self.lateness) else {
+            return Err(AllocError);
+        };
+        let alloc = self.queue.allocator();
+        let firsts = firsts_at(alloc, self.shape, expired, &self.queue)?;
+        let queue = mem::replace(&mut self.queue, Queue::new(alloc));
+        self.queue = queue.thinned(&firsts)?;
+        Ok(())
+    }
+
+    /// The rows that stay, the oldest first.
+    pub fn finish(mut self) -> Result<Queue, AllocError>
+        requires shape { IsShape self.shape }
+        requires lateness { IsSpan self.lateness }
+        ensures { (q : Query) (rows : List Written) → IsLawfulQuery q → Fits q self rows → IfOk result (λ kept. map row_of kept ≡ map text_of (staying read q rows)) }
+    {
+        self.cut()?;
+        let Keeper {
+            mut queue,
+            since,
+            ..
+        } = self;
+        queue.append(since)?;
+        Ok(queue)
+    }
+}
+
+// The last end of windows that have expired at a watermark, which is a time.
+fn expired_at(mark: i64, lateness: i64) -> Option<i64>
+    requires { IsSpan lateness }
+    ensures value { IfSome result (λ expired. expired ≡ mark -ℤ lateness) }
+    ensures low { IfSome result (λ expired. (pos 0 -ℤ pos 1000000000000) ≤ℤ expired) }
+    ensures high { IfSome result (λ expired. expired ≤ℤ pos 10000000000000000) }
+{
+    if is_time(mark) {
+        Some(mark - lateness)
+    } else {
+        None
+    }
+}

@@ -1,0 +1,15 @@
+//! Cuts rows down to those that a run needs to go on.
+#![tactic(auto)]
+
+pub use firsts::Firsts;
+pub use keeper::{Judged, Keeper};
+pub use queue::{Item, Queue};
+pub use what::What;
+
+mod cut;
+mod firsts;
+mod keeper;
+pub mod laws;
+mod queue;
+mod sessions;
+mod what;

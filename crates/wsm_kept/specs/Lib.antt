@@ -1,0 +1,5 @@
+pub mod Head
+pub mod Kept
+pub mod Texts
+pub mod Cut
+pub mod KeptRows

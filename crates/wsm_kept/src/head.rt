@@ -1,0 +1,149 @@
+//! The row in front of rows that were cut.
+
+ghost use Rattle.std.specs.Prelude.{◌≡◌, ◌++◌, ◌∷◌, true, option_map, IfOk, OnOk};
+ghost use Rattle.std.specs.Fmt.{decimal};
+ghost use Rattle.csv.specs.Records.{fields_of};
+ghost use Rattle.csv.specs.Writing.{default_writer, row_text};
+ghost use Rattle.wsm_kept.specs.Head.{head_text, is_tag, is_tagged};
+
+use crate::end::KeepEnd;
+use crate::row_text::text_of;
+use csv::ByteRecord;
+use itoa::Buffer;
+use std::alloc::{AllocError, Global};
+
+/// What rows that were cut stand for, as the row in front of them says it.
+#[derive(Clone, Copy, Debug, PartialEq, Eq)]
+pub struct Head {
+    /// How many rows there were in all.
+    pub rows: u64,
+    /// How many lines a run over all of them has written.
+    pub lines: u64,
+    /// How many rows stand for them, with this one.
+    pub kept: u64,
+    /// How many lines a run over these writes.
+    pub own: u64,
+    /// The RECORDS by which a run over these takes as many records as one over all would.
+    pub records: u64,
+    /// A sum of the query's text.
+    pub sum: u64,
+}
+
+impl Head {
+    ghost use Rattle.std.specs.Prelude.{◌≡◌, ◌++◌, IfOk, OnOk};
+    ghost use Rattle.csv.specs.Records.{fields_of};
+    ghost use Rattle.wsm_kept.specs.Head.{Says, head_text, no_head};
+
+    /// That of rows of which none is gone.
+    pub fn none() -> Head
+        ensures { result ≡ no_head }
+    {
+        Head {
+            rows: 0,
+            lines: 0,
+            kept: 0,
+            own: 0,
+            records: 0,
+            sum: 0,
+        }
+    }
+
+    /// What the first row of some says of those before it.
+    ///
+    /// # Errors
+    ///
+    /// [`KeepEnd::BadHead`] where it begins as a head does and isn't written as one.
+    pub fn of(alloc: Global, row: &ByteRecord) -> Result<Head, KeepEnd>
+        ensures { IfOk result (Says (fields_of row.now)) }
+    {
+        if !begins_as_head(row) {
+            return Ok(Head::none());
+        }
+        let head = numbers_of(row);
+        if is_written(alloc, row, &head)? {
+            Ok(head)
+        } else {
+            Err(KeepEnd::BadHead)
+        }
+    }
+
+    /// Adds the bytes of the row.
+    #[tactic(auto, unfolding(crate::specs::Head::head_text))]
+    pub fn add_text(&self, out: &mut Vec<u8>) -> Result<(), AllocError>
+        ensures { OnOk result (out.new.items ≡ out.old.items ++ head_text self.now) }
+    {
+        out.extend_from_slice(b"kept")?;
+        add_count(self.rows, out)?;
+        add_count(self.lines, out)?;
+        add_count(self.kept, out)?;
+        add_count(self.own, out)?;
+        add_count(self.records, out)?;
+        add_count(self.sum, out)?;
+        Ok(out.push(b'\n')?)
+    }
+}
+
+// A comma and a number.
+fn add_count(count: u64, out: &mut Vec<u8>) -> Result<(), AllocError>
+    ensures { OnOk result (out.new.items ≡ out.old.items ++ 44 ∷ decimal count) }
+{
+    let mut digits = Buffer::new();
+    out.push(b',')?;
+    out.extend_from_slice(digits.format(count).as_bytes())
+}
+
+// Whether the first cell of a row is that of a head.
+fn begins_as_head(row: &ByteRecord) -> bool
+    ensures { result ≡ is_tagged (fields_of row.now) }
+{
+    is_tag(row.get(0))
+}
+
+fn is_tag(cell: Option<&[u8]>) -> bool
+    ensures { result ≡ is_tag (option_map (λ c. c.now) cell.entry) }
+{
+    match cell {
+        Some(cell) => cell == b"kept".as_slice(),
+        None => false,
+    }
+}
+
+// Whether a row is written as a head is.
+fn is_written(alloc: Global, row: &ByteRecord, head: &Head) -> Result<bool, AllocError>
+    ensures { IfOk result (λ is. is ≡ true → row_text default_writer (fields_of row.now) ≡ head_text head.now) }
+{
+    let text = text_of(alloc, row)?;
+    let mut own = Vec::new(alloc);
+    head.add_text(&mut own)?;
+    Ok(text.as_slice() == own.as_slice())
+}
+
+// The numbers in the cells of a row behind the first, as far as they are some.
+fn numbers_of(row: &ByteRecord) -> Head {
+    Head {
+        rows: number_at(row, 1),
+        lines: number_at(row, 2),
+        kept: number_at(row, 3),
+        own: number_at(row, 4),
+        records: number_at(row, 5),
+        sum: number_at(row, 6),
+    }
+}
+
+fn number_at(row: &ByteRecord, place: usize) -> u64 {
+    match row.get(place) {
+        Some(cell) => number_of(cell),
+        None => 0,
+    }
+}
+
+// The number that digits say.
+fn number_of(cell: &[u8]) -> u64 {
+    let mut number = 0u64;
+    for digit in cell {
+        number = number
+            .saturating_mul(10)
+            .saturating_add(u64::from(digit.saturating_sub(b'0')));
+    }
+    number
+}
