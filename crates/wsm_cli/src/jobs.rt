@@ -1,29 +1,35 @@
 //! What the jobs of the program do with files, standard input and standard output.
 
-ghost use Rattle.wsm_intake.specs.Clocks.{AreRules};
-
-use crate::sources::{Bound, source_for};
+use crate::deals::deal_or_tell;
+use crate::logs::{rows_from, run_from};
+use crate::sources::source_for;
 use crate::stop::Stop;
 use std::fs::{self, File};
-use std::io::{self, ErrorKind, Read, Write};
+use std::io::{self, Eprint, ErrorKind, Read, Write};
 use std::rt::Files;
+use std::time::Clock;
 use wsm::{
-    Ahead, DealtPart, Device, End, Guarded, Input as Judged, Job, Rows, Shares, SharesRefusal,
-    accepted_of, compile_text, deal, judge_input, migrate, run_input, run_log, write_out,
+    Device, End, Guarded, Input as Judged, Job, Rows, accepted_of, compile_text, judge_input,
+    migrate, run_input, write_out,
 };
-use wsm_intake::write_rows;
-use wsm_lines::Source;
 use wsm_rules::Verified;
 
-/// Does the job. It is false where a program was judged and rejected.
-pub fn done<R: Files + AllocGlobal + Input + Print>(rt: &R, job: &Job) -> Result<bool, Stop> {
+/// Does the job; somebody may look at standard error meanwhile. It is false where a program was judged and rejected.
+pub fn done<R: Files + AllocGlobal + Input + Print + Eprint + Clock>(
+    rt: &R,
+    job: &Job,
+    is_looked_at: bool,
+) -> Result<bool, Stop> {
     match job {
         Job::Run {
             program,
             from: Some(source),
             query,
             rows,
-        } => run_from(rt, *program, source, query, rows.as_ref()),
+        } => {
+            let query = accepted(rt, *program, query)?;
+            run_from(rt, query, source, rows.as_ref(), is_looked_at)
+        }
         Job::Run {
             program,
             from: None,
@@ -35,7 +41,10 @@ pub fn done<R: Files + AllocGlobal + Input + Print>(rt: &R, job: &Job) -> Result
             source,
             query,
             rows,
-        } => rows_from(rt, *program, source, query, rows.as_ref()),
+        } => {
+            let query = accepted(rt, *program, query)?;
+            rows_from(rt, &query, source, rows.as_ref(), is_looked_at)
+        }
         Job::Compile { query, out } => Ok(compile(rt, query, out)?),
         Job::Migrate { program, out } => Ok(migrated(rt, program, out)?),
         Job::Verify {
@@ -55,71 +64,8 @@ pub fn done<R: Files + AllocGlobal + Input + Print>(rt: &R, job: &Job) -> Result
             parts,
             out,
             rows,
-        } => {
-            let shares = shares_of(rt, keys, parts)?;
-            if *keys_of {
-                Ok(clause(rt, &shares, out)?)
-            } else {
-                Ok(dealt(rt, &shares, out, rows.as_ref())?)
-            }
-        }
+        } => deal_or_tell(rt, *keys_of, keys, parts, out, rows.as_ref()),
     }
-}
-
-// The keys of a file, for so many parts.
-fn shares_of<R: Files + AllocGlobal>(rt: &R, keys: &String, parts: &String) -> Result<Shares, End> {
-    let text = read(rt, keys)?;
-    let parts = number_of(parts)?;
-    Ok(Shares::of(rt.alloc(), &text, parts)?)
-}
-
-fn number_of(text: &String) -> Result<usize, End> {
-    match text.as_str().parse::<usize>() {
-        Ok(number) => Ok(number),
-        Err(_) => Err(End::from(SharesRefusal::BadNumber)),
-    }
-}
-
-// Writes the clause of a part's keys.
-fn clause<R: AllocGlobal + Print>(rt: &R, shares: &Shares, part: &String) -> Result<bool, End> {
-    let part = number_of(part)?;
-    let text = shares.clause_of(rt.alloc(), part)?;
-    write_all(&text, io::writer(rt))
-}
-
-// Deals a file of rows, or standard input, to the files of the parts.
-fn dealt<R: Files + AllocGlobal + Input>(
-    rt: &R,
-    shares: &Shares,
-    out: &String,
-    rows: Option<&String>,
-) -> Result<bool, End> {
-    match rows {
-        None => deal_over(rt, shares, out, rt.reader()),
-        Some(rows) => match File::open(rt, rows.as_str()) {
-            Ok(rows) => deal_over(rt, shares, out, rows),
-            Err(error) => Err(end_of(&error, End::ReadFailed)),
-        },
-    }
-}
-
-fn deal_over<R: Files + AllocGlobal, I: Read + Drop>(
-    rt: &R,
-    shares: &Shares,
-    out: &String,
-    rows: I,
-) -> Result<bool, End> {
-    let mut parts = Vec::new(rt.alloc());
-    for number in 0..shares.parts() {
-        let name = format!(in rt.alloc(); "{out}{number}")?;
-        match File::create(rt, name.as_str()) {
-            Ok(file) => parts.push(DealtPart::new(rt.alloc(), Guarded::new(file)))?,
-            Err(error) => return Err(end_of(&error, End::WriteFailed)),
-        }
-    }
-    let mut rows = Rows::new(rt.alloc(), Ahead::new(rt.alloc(), rows)?);
-    deal(shares, &mut rows, &mut parts)?;
-    Ok(true)
 }
 
 // Runs a query or a program over a file of rows, or over standard input.
@@ -151,6 +97,12 @@ fn run_over<R: AllocGlobal + Print, I: Read + Drop>(
     Ok(true)
 }
 
+// The accepted program that a file has, or the program of its query.
+fn accepted<R: Files + AllocGlobal>(rt: &R, program: bool, name: &String) -> Result<Verified, End> {
+    let bytes = read(rt, name)?;
+    accepted_of(rt.alloc(), input_of(program, &bytes))
+}
+
 // The bytes of a program, or the text of a query.
 fn input_of(program: bool, bytes: &[u8]) -> Judged<'_> {
     if program {
@@ -158,78 +110,6 @@ fn input_of(program: bool, bytes: &[u8]) -> Judged<'_> {
     } else {
         Judged::Text(bytes)
     }
-}
-
-// Runs a query or a program over a log, whose lines are read by a source, or over standard input.
-fn run_from<R: Files + AllocGlobal + Input + Print>(
-    rt: &R,
-    program: bool,
-    source: &String,
-    query: &String,
-    log: Option<&String>,
-) -> Result<bool, Stop> {
-    let query = read(rt, query)?;
-    let verified = accepted_of(rt.alloc(), input_of(program, &query))?;
-    let bound = source_for(rt, source, &verified)?;
-    match log {
-        None => Ok(log_over(rt, verified, bound, rt.reader())?),
-        Some(log) => match File::open(rt, log.as_str()) {
-            Ok(log) => Ok(log_over(rt, verified, bound, log)?),
-            Err(error) => Err(Stop::End(end_of(&error, End::ReadFailed))),
-        },
-    }
-}
-
-fn log_over<R: AllocGlobal + Print, I: Read + Drop>(
-    rt: &R,
-    verified: Verified,
-    bound: Bound,
-    log: I,
-) -> Result<bool, End>
-    requires { AreRules bound.rule }
-{
-    let mut output = Guarded::new(io::writer(rt));
-    run_log(
-        rt.alloc(),
-        verified,
-        bound.source,
-        bound.rule,
-        log,
-        &mut output,
-    )?;
-    Ok(true)
-}
-
-// Writes the rows of a log's lines by a source.
-fn rows_from<R: Files + AllocGlobal + Input + Print>(
-    rt: &R,
-    program: bool,
-    source: &String,
-    query: &String,
-    log: Option<&String>,
-) -> Result<bool, Stop> {
-    let query = read(rt, query)?;
-    let verified = accepted_of(rt.alloc(), input_of(program, &query))?;
-    let bound = source_for(rt, source, &verified)?;
-    match log {
-        None => Ok(rows_over(rt, &verified, bound.source, rt.reader())?),
-        Some(log) => match File::open(rt, log.as_str()) {
-            Ok(log) => Ok(rows_over(rt, &verified, bound.source, log)?),
-            Err(error) => Err(Stop::End(end_of(&error, End::ReadFailed))),
-        },
-    }
-}
-
-fn rows_over<R: AllocGlobal + Print, I: Read + Drop>(
-    rt: &R,
-    verified: &Verified,
-    source: Source,
-    log: I,
-) -> Result<bool, End> {
-    let schema = &verified.program().header().schema;
-    let mut output = Guarded::new(io::writer(rt));
-    write_rows(rt.alloc(), schema, source, log, &mut output)?;
-    Ok(true)
 }
 
 // Writes the program of a query to a file.
@@ -254,7 +134,8 @@ fn write<R: Files>(rt: &R, bytes: &[u8], out: &String) -> Result<bool, End> {
     }
 }
 
-fn write_all<W: Write + Drop>(bytes: &[u8], file: W) -> Result<bool, End> {
+/// Writes all bytes, and has them leave.
+pub fn write_all<W: Write + Drop>(bytes: &[u8], file: W) -> Result<bool, End> {
     let mut out = Guarded::new(file);
     write_out(&mut out, bytes)?;
     out.flush()?;
@@ -280,10 +161,9 @@ fn judged_with<R: Files + AllocGlobal + Print>(
     source: &String,
     program: &String,
 ) -> Result<bool, Stop> {
-    let bytes = read(rt, program)?;
-    match accepted_of(rt.alloc(), input_of(!query, &bytes)) {
+    match accepted(rt, !query, program) {
         Ok(verified) => {
-            source_for(rt, source, &verified)?;
+            source_for(rt, source, &verified, false)?;
             Ok(judged(rt, query, program, false)?)
         }
         Err(End::Rejected(_)) => Ok(judged(rt, query, program, false)?),

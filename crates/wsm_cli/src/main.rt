@@ -5,16 +5,20 @@
 //! the words' refusal has `clap`'s own text.
 #![tactic(auto)]
 
+mod deals;
 mod jobs;
+mod logs;
+mod progress;
 mod sources;
 mod stop;
 
 use crate::jobs::done;
-use crate::stop::Stop;
+use crate::stop::{Stop, WordsFault};
 use std::env;
-use std::io::{self, ErrorKind};
+use std::io::{self, ErrorKind, IsTerminal};
 use std::process::ExitCode;
 use std::rt::{Env, Files};
+use std::time::Clock;
 use wsm::{End, Job, REJECTED_STATUS, WordsRefusal, command_of, status_of};
 use wsm_source::SourceRefusal;
 
@@ -26,7 +30,7 @@ const REFUSED_SOURCE: u8 = 3;
 
 fn main(rt: HostRuntime) -> ExitCode {
     match words_of(&rt) {
-        Ok(words) => act(&rt, &words),
+        Ok(words) => act(&rt, &words, rt.stderr().is_terminal()),
         Err(error) => match error.kind() {
             ErrorKind::OutOfMemory => ended(&rt, End::Memory),
             _ => no_text(&rt),
@@ -40,8 +44,12 @@ fn words_of<R: Env + AllocGlobal>(rt: &R) -> io::Result<Vec<String>> {
     Ok(words)
 }
 
-// Does what the words ask for.
-fn act<R: Files + AllocGlobal + Input + Print + Eprint>(rt: &R, words: &[String]) -> ExitCode {
+// Does what the words ask for. Somebody may look at standard error meanwhile.
+fn act<R: Files + AllocGlobal + Input + Print + Eprint + Clock>(
+    rt: &R,
+    words: &[String],
+    is_looked_at: bool,
+) -> ExitCode {
     let Ok(words) = words
         .iter()
         .map(|word| word.as_str())
@@ -50,19 +58,24 @@ fn act<R: Files + AllocGlobal + Input + Print + Eprint>(rt: &R, words: &[String]
         return ended(rt, End::Memory);
     };
     match command_of(rt.alloc(), &words) {
-        Ok(job) => status(rt, &job),
+        Ok(job) => status(rt, &job, is_looked_at),
         Err(WordsRefusal::Memory) => ended(rt, End::Memory),
         Err(WordsRefusal::Words(error)) => refused_words(rt, &error),
     }
 }
 
 // Does the job, and gives the status.
-fn status<R: Files + AllocGlobal + Input + Print + Eprint>(rt: &R, job: &Job) -> ExitCode {
-    match done(rt, job) {
+fn status<R: Files + AllocGlobal + Input + Print + Eprint + Clock>(
+    rt: &R,
+    job: &Job,
+    is_looked_at: bool,
+) -> ExitCode {
+    match done(rt, job, is_looked_at) {
         Ok(true) => ExitCode::SUCCESS,
         Ok(false) => ExitCode::from(REJECTED_STATUS),
         Err(Stop::End(end)) => ended(rt, end),
         Err(Stop::Source(refusal)) => refused_source(rt, &refusal),
+        Err(Stop::Words(fault)) => mismatched_words(rt, fault),
     }
 }
 
@@ -85,6 +98,16 @@ fn refused_words<R: Print + Eprint>(rt: &R, error: &clap::Error) -> ExitCode {
         0 => ExitCode::SUCCESS,
         _ => ExitCode::from(REFUSED_WORDS),
     }
+}
+
+// Prints why words don't go together.
+fn mismatched_words<R: Eprint>(rt: &R, fault: WordsFault) -> ExitCode {
+    let _ = match fault {
+        WordsFault::RowsOfKeys => eprintln!(rt; "wsm: --keys-of takes no ROWS"),
+        WordsFault::RowsAsPart(part) => eprintln!(rt; "wsm: ROWS is the file of part {part}"),
+        WordsFault::KeysAsPart(part) => eprintln!(rt; "wsm: KEYS is the file of part {part}"),
+    };
+    ExitCode::from(REFUSED_WORDS)
 }
 
 // A word is no text.

@@ -1,7 +1,7 @@
 //! Sources: the files that say how the lines of a log are read.
 
 ghost use Rattle.std.specs.Prelude.{IfOk};
-ghost use Rattle.wsm_intake.specs.Clocks.{AreRules};
+ghost use Rattle.wsm_intake.specs.Clocks.{AreClocks};
 
 use crate::jobs::{end_of, read};
 use crate::stop::Stop;
@@ -9,7 +9,7 @@ use std::fs;
 use std::io::ErrorKind;
 use std::rt::Files;
 use wsm::End;
-use wsm_intake::{Rule, rule_of};
+use wsm_intake::{Clocks, clocks_of};
 use wsm_lines::Source;
 use wsm_rules::Verified;
 use wsm_source::{
@@ -21,20 +21,21 @@ use wsm_values::{Word, Zone, ZoneFault};
 // Where the zones of the system stand.
 const ZONES: &str = "/usr/share/zoneinfo/";
 
-/// What a source comes to for a program: how a line is read, and how its clocks make watermarks, where it has any.
+/// What a source comes to for a program: how a line is read, and its clocks, where it has any.
 #[derive(Drop)]
 pub struct Bound {
     pub source: Source,
-    pub rule: Option<Rule>,
+    pub clocks: Option<Clocks>,
 }
 
-/// The source that a file has, for an accepted program.
+/// The source that a file has, for an accepted program. A run leaves no doubles out, and takes none with identifiers.
 pub fn source_for<R: Files + AllocGlobal>(
     rt: &R,
     name: &String,
     verified: &Verified,
+    is_run: bool,
 ) -> Result<Bound, Stop>
-    ensures { IfOk result (λ bound. AreRules bound.rule) }
+    ensures { IfOk result (λ bound. AreClocks bound.clocks) }
 {
     let bytes = read(rt, name)?;
     let Ok(text) = str::from_utf8(&bytes) else {
@@ -42,8 +43,11 @@ pub fn source_for<R: Files + AllocGlobal>(
     };
     let description = describe(rt.alloc(), text)?;
     let source = source_of(rt, name, text, &description, verified)?;
-    let rule = rule_for(rt, text, description.clock, verified)?;
-    Ok(Bound { source, rule })
+    let clocks = clocks_for(rt, text, description.clock, verified)?;
+    if is_run && source.identifier.is_some() {
+        return Err(refused(rt, SourceFault::Conflict, "identifier", text));
+    }
+    Ok(Bound { source, clocks })
 }
 
 // What the text of a source says of a program's records.
@@ -63,31 +67,35 @@ fn source_of<R: Files + AllocGlobal>(
     }
 }
 
-// The rule of the clocks that a source has. A query with SOURCES has a watermark of each, and takes none of clocks.
-fn rule_for<R: AllocGlobal>(
+// The clocks that a source has. A query with SOURCES has a watermark of each, and takes none of clocks; one whose SKEW is less than
+// BOUND and STEP would refuse what has waited.
+fn clocks_for<R: AllocGlobal>(
     rt: &R,
     text: &str,
     clock: Option<ClockDescription>,
     verified: &Verified,
-) -> Result<Option<Rule>, Stop>
-    ensures { IfOk result AreRules }
+) -> Result<Option<Clocks>, Stop>
+    ensures { IfOk result AreClocks }
 {
-    let Some(clock) = clock else {
+    let Some(said) = clock else {
         return Ok(None);
     };
     let header = verified.program().header();
     if header.schema.sources().len() != 0 {
         return Err(refused(rt, SourceFault::Conflict, "clock", text));
     }
-    match rule_of(
-        clock.agree,
-        clock.bound,
-        clock.step,
-        clock.forget,
-        header.clock.start,
+    let (start, skew) = (header.clock.start, header.clock.skew);
+    match clocks_of(
+        said.agree,
+        said.bound,
+        said.step,
+        said.forget,
+        said.room,
+        start,
+        skew,
     ) {
-        Some(rule) => Ok(Some(rule)),
-        None => Err(refused(rt, SourceFault::BadRange, "clock", text)),
+        Some(clocks) => Ok(Some(clocks)),
+        None => Err(refused(rt, SourceFault::Conflict, "clock.bound", text)),
     }
 }
 

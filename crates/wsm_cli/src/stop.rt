@@ -9,8 +9,21 @@ use wsm_source::SourceRefusal;
 pub enum Stop {
     /// Its source is refused; nothing was written.
     Source(SourceRefusal),
+    /// Its words don't go together; nothing was made or written.
+    Words(WordsFault),
     /// As a job without a source ends.
     End(End),
+}
+
+/// Why words that are taken one by one don't go together.
+#[derive(Clone, Copy)]
+pub enum WordsFault {
+    /// The keys of a part are asked for, and rows are named.
+    RowsOfKeys,
+    /// The file of the rows is that of a part.
+    RowsAsPart(usize),
+    /// The file of the keys is that of a part.
+    KeysAsPart(usize),
 }
 
 impl From<End> for Stop {

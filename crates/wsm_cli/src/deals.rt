@@ -1,0 +1,133 @@
+//! What dealing does with files and standard input.
+
+use crate::jobs::{end_of, read, write_all};
+use crate::stop::{Stop, WordsFault};
+use std::fs::{self, File};
+use std::io::{self, Read};
+use std::os::unix::fs::MetadataExt;
+use std::rt::Files;
+use wsm::{Ahead, End, Guarded, Rows, Shares, SharesRefusal, deal};
+use wsm_deal::add_part;
+
+/// The name that standard input has among the files.
+const STANDARD_INPUT: &str = "/dev/stdin";
+
+/// Deals rows to parts, or tells the keys of one.
+pub fn deal_or_tell<R: Files + AllocGlobal + Input + Print>(
+    rt: &R,
+    keys_of: bool,
+    keys: &String,
+    parts: &String,
+    out: &String,
+    rows: Option<&String>,
+) -> Result<bool, Stop> {
+    if keys_of && rows.is_some() {
+        return Err(Stop::Words(WordsFault::RowsOfKeys));
+    }
+    let shares = shares_of(rt, keys, parts)?;
+    if keys_of {
+        Ok(clause(rt, &shares, out)?)
+    } else {
+        dealt(rt, &shares, out, keys, rows)
+    }
+}
+
+// The keys of a file, for so many parts.
+fn shares_of<R: Files + AllocGlobal>(rt: &R, keys: &String, parts: &String) -> Result<Shares, End> {
+    let text = read(rt, keys)?;
+    Ok(Shares::for_parts(rt.alloc(), &text, number_of(parts))?)
+}
+
+// The number that a word writes in digits alone.
+fn number_of(word: &String) -> Option<usize> {
+    if word.as_bytes().iter().all(|byte| byte.is_ascii_digit()) {
+        word.as_str().parse::<usize>().ok()
+    } else {
+        None
+    }
+}
+
+// Writes the clause of a part's keys.
+fn clause<R: AllocGlobal + Print>(rt: &R, shares: &Shares, part: &String) -> Result<bool, End> {
+    let Some(part) = number_of(part) else {
+        return Err(End::from(SharesRefusal::BadNumber));
+    };
+    let text = shares.clause_of(rt.alloc(), part)?;
+    write_all(&text, io::writer(rt))
+}
+
+// Deals a file of rows, or standard input, to the files of the parts.
+fn dealt<R: Files + AllocGlobal + Input>(
+    rt: &R,
+    shares: &Shares,
+    out: &String,
+    keys: &String,
+    rows: Option<&String>,
+) -> Result<bool, Stop> {
+    match rows {
+        None => {
+            require_others(rt, shares, out, keys, STANDARD_INPUT)?;
+            Ok(deal_over(rt, shares, out, rt.reader())?)
+        }
+        Some(name) => match File::open(rt, name.as_str()) {
+            Ok(rows) => {
+                require_others(rt, shares, out, keys, name.as_str())?;
+                Ok(deal_over(rt, shares, out, rows)?)
+            }
+            Err(error) => Err(Stop::End(end_of(&error, End::ReadFailed))),
+        },
+    }
+}
+
+// Refuses a part's file that is read: to make it would empty it.
+fn require_others<R: Files + AllocGlobal>(
+    rt: &R,
+    shares: &Shares,
+    out: &String,
+    keys: &String,
+    rows: &str,
+) -> Result<(), Stop> {
+    let rows_place = place_of(rt, rows);
+    let keys_place = place_of(rt, keys.as_str());
+    for number in 0..shares.parts() {
+        let name = format!(in rt.alloc(); "{out}{number}")?;
+        let place = place_of(rt, name.as_str());
+        if name.as_str() == rows || is_same(place, rows_place) {
+            return Err(Stop::Words(WordsFault::RowsAsPart(number)));
+        }
+        if name.as_str() == keys.as_str() || is_same(place, keys_place) {
+            return Err(Stop::Words(WordsFault::KeysAsPart(number)));
+        }
+    }
+    Ok(())
+}
+
+// Where a file lies: its device, and its number there.
+fn place_of<R: Files>(rt: &R, name: &str) -> Option<(u64, u64)> {
+    let metadata = fs::metadata(rt, name).ok()?;
+    Some((metadata.dev(), metadata.ino()))
+}
+
+// Whether both are there, at one place.
+fn is_same(place: Option<(u64, u64)>, other: Option<(u64, u64)>) -> bool {
+    place.is_some() && place == other
+}
+
+fn deal_over<R: Files + AllocGlobal, I: Read + Drop>(
+    rt: &R,
+    shares: &Shares,
+    out: &String,
+    rows: I,
+) -> Result<bool, End> {
+    let mut parts = Vec::new(rt.alloc());
+    for number in 0..shares.parts() {
+        let name = format!(in rt.alloc(); "{out}{number}")?;
+        match File::create(rt, name.as_str()) {
+            Ok(file) => add_part(rt.alloc(), &mut parts, Guarded::new(file))?,
+            Err(error) => return Err(end_of(&error, End::WriteFailed)),
+        }
+    }
+    let mut rows = Rows::new(rt.alloc(), Ahead::new(rt.alloc(), rows)?);
+    deal(shares, &mut rows, &mut parts)?;
+    Ok(true)
+}

@@ -1,0 +1,103 @@
+//! What the jobs of the program do with the lines of logs.
+
+ghost use Rattle.wsm_intake.specs.Clocks.{AreClocks};
+
+use crate::jobs::end_of;
+use crate::progress::Watched;
+use crate::sources::{Bound, source_for};
+use crate::stop::Stop;
+use std::fs::{self, File};
+use std::io::{self, Eprint, Read};
+use std::rt::Files;
+use std::time::Clock;
+use wsm::{End, Guarded};
+use wsm_lines::Source;
+use wsm_log_rows::write_rows;
+use wsm_log_run::{end_of_log, run_log};
+use wsm_rules::Verified;
+
+/// Runs an accepted program over a log, whose lines are read by a source, or over standard input.
+pub fn run_from<R: Files + AllocGlobal + Input + Print + Eprint + Clock>(
+    rt: &R,
+    verified: Verified,
+    source: &String,
+    log: Option<&String>,
+    is_looked_at: bool,
+) -> Result<bool, Stop> {
+    let bound = source_for(rt, source, &verified, true)?;
+    match log {
+        None => Ok(log_over(rt, verified, bound, rt.reader())?),
+        Some(log) => {
+            let log = opened(rt, log, is_looked_at)?;
+            Ok(log_over(rt, verified, bound, log)?)
+        }
+    }
+}
+
+fn log_over<R: AllocGlobal + Print, I: Read + Drop>(
+    rt: &R,
+    verified: Verified,
+    bound: Bound,
+    log: I,
+) -> Result<bool, End>
+    requires { AreClocks bound.clocks }
+{
+    let mut output = Guarded::new(io::writer(rt));
+    run_log(
+        rt.alloc(),
+        verified,
+        bound.source,
+        bound.clocks,
+        log,
+        &mut output,
+    )?;
+    Ok(true)
+}
+
+/// Writes the rows of a log's lines by a source.
+pub fn rows_from<R: Files + AllocGlobal + Input + Print + Eprint + Clock>(
+    rt: &R,
+    verified: &Verified,
+    source: &String,
+    log: Option<&String>,
+    is_looked_at: bool,
+) -> Result<bool, Stop> {
+    let bound = source_for(rt, source, verified, false)?;
+    match log {
+        None => Ok(rows_over(rt, verified, bound.source, rt.reader())?),
+        Some(log) => {
+            let log = opened(rt, log, is_looked_at)?;
+            Ok(rows_over(rt, verified, bound.source, log)?)
+        }
+    }
+}
+
+fn rows_over<R: AllocGlobal + Print, I: Read + Drop>(
+    rt: &R,
+    verified: &Verified,
+    source: Source,
+    log: I,
+) -> Result<bool, End> {
+    let schema = &verified.program().header().schema;
+    let mut output = Guarded::new(io::writer(rt));
+    match write_rows(rt.alloc(), schema, source, log, &mut output) {
+        Ok(()) => Ok(true),
+        Err(end) => Err(end_of_log(end)),
+    }
+}
+
+// The file of a log, of which it is told how much was read.
+fn opened<'r, R: Files + Clock>(
+    rt: &'r R,
+    log: &String,
+    is_looked_at: bool,
+) -> Result<Watched<'r, R, R::File>, End> {
+    let size = match fs::metadata(rt, log.as_str()) {
+        Ok(metadata) => metadata.len(),
+        Err(_) => 0,
+    };
+    match File::open(rt, log.as_str()) {
+        Ok(log) => Ok(Watched::new(rt, log, size, is_looked_at)),
+        Err(error) => Err(end_of(&error, End::ReadFailed)),
+    }
+}
