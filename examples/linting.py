@@ -680,7 +680,7 @@ def advice(text, at, kind, token, asked):
     if token == "-" and last and {",", ";"} & set(asked) and "+" not in asked:
         name = re.match(r"-\w*", rest)[0]
         if re.search(r"\bKEYS\b[^;]*\Z", before):
-            return f"A key has letters, digits and _: declare k1, k2, ..: examples/names (`wsm-names`) gives them to names as `{last}{name}`."
+            return f"A key has letters, digits and _: declare k1, k2, .., and a source gives them to texts as `{last}{name}` by a file of names."
         return f"A name has letters, digits and _: write `{last}{name.replace('-', '_')}`."
     if token in ("-", "..") and ".." in asked or token == "-" and "+" not in asked and KINDS["number"] in asked:
         return "An interval is written `0..100`." if ".." in asked else "There is no sign here."

@@ -10,7 +10,7 @@ from typing import Callable, Dict, List, Optional
 
 sys.dont_write_bytecode = True
 
-from row_lines import BAD_READ, Ended, Signals
+from row_lines import BAD_READ, MARK_OF_ORDER, Ended, Signals
 
 LONGEST = 1 << 20  # bytes of a line, where a source doesn't say more
 CELLS = "host ident user time request status bytes referer agent method path protocol".split()
@@ -41,7 +41,7 @@ def whole_log(descriptor: int) -> List[bytes]:
         if not text:
             break
         parts.append(text)
-    lines = b"".join(parts).split(b"\n")
+    lines = b"".join(parts).removeprefix(MARK_OF_ORDER).split(b"\n")
     if not lines[-1]:
         lines.pop()
     return [line[:-1] if line.endswith(b"\r") else line for line in lines]

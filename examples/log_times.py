@@ -117,7 +117,7 @@ def forms(zone: Zone, plain: bool = False) -> Dict[str, Seconds]:
     found: Dict[str, Seconds] = {"rfc3339": rfc_3339}
     for name, per_second in COUNTS.items():
         found[name] = count(per_second, 0, plain and name == "seconds")
-    found["fraction"] = count(1, 6, plain)
+    found["fraction"] = count(1, 9, plain)
     found.update({form: pattern(form, zone) for form in PATTERNS})
     return found
 

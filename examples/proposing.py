@@ -5,7 +5,7 @@ A column is all that stands at one place of the lines. What can't be placed is l
 import re
 import sys
 import unicodedata
-from typing import Dict, Iterable, List, Optional, Set, Tuple
+from typing import Dict, Iterable, List, Optional, Tuple
 
 sys.dont_write_bytecode = True
 
@@ -25,6 +25,12 @@ PAIRS = [
     pair for low in (("true", "false"), ("yes", "no"), ("ja", "nein"), ("on", "off"), ("oui", "non"), ("y", "n"), ("t", "f"))
     for pair in (low, tuple(map(str.title, low)), tuple(map(str.upper, low)))
 ]
+STATES = set("""
+    true false yes no on off y n t f ja nein oui non get head post put delete connect options trace patch http/1.0 http/1.1 http/2.0
+    ok okay error err fail failed failure fault success succeeded pass passed good bad up down open opened closed active inactive idle busy
+    enabled disabled alive dead running stopped started done pending new paid unpaid accepted rejected denied allowed valid invalid
+    unknown none normal low high trace debug info information notice warn warning critical crit alert fatal emerg emergency
+""".split())
 SIGNS = [(".", None), (".", ","), (",", None), (",", "."), (",", " "), (".", "'")]  # point and group
 
 
@@ -70,32 +76,54 @@ class Left:
 # ---- columns
 
 class Decimals:
-    """The numbers that some texts are by a point and a sign between groups, in parts of the last digit."""
+    """The numbers that some texts are by a point and a sign between groups, by their digits behind the point.
+
+    The scale is the least that nine of ten numbers have: one with more digits says nothing of the others, and is refused.
+    """
 
     def __init__(self, point: str, group: Optional[str]):
-        self.point, self.group, self.scale = point, group, 0
-        self.low: Optional[int] = None
-        self.high: Optional[int] = None
+        self.point, self.group, self.count = point, group, 0
+        self.found: Dict[int, List[int]] = {}  # how many, the least and the greatest, in parts of the last digit
         apart = re.escape(group or "")
         digits = "[0-9]+" if group is None else rf"(?:[0-9]{{1,3}}(?:{apart}[0-9]{{3}})+|[0-9]+)"
         self.form = re.compile(rf"(-?)({digits})(?:{re.escape(point)}([0-9]{{1,18}}))?")
         self.json_form = re.compile(r"(-?)([0-9]+)(?:\.([0-9]{1,18}))?")
 
-    def take(self, text: str) -> bool:
-        """Takes note of a number; whether it is one."""
-        read = (self.json_form if isinstance(text, Number) else self.form).fullmatch(text)
+    def read(self, text: object) -> Optional[Tuple[int, int]]:
+        """How many digits a number has behind the point, and the number in parts of the last."""
+        read = None if text is ODD else (self.json_form if isinstance(text, Number) else self.form).fullmatch(text)
         if read is None or len(read[2]) > 40:
-            return False
-        behind = read[3] or ""
-        if len(behind) > self.scale:
-            more = 10 ** (len(behind) - self.scale)
-            self.scale = len(behind)
-            self.low, self.high = self.low and self.low * more, self.high and self.high * more
+            return None
         whole = read[2] if isinstance(text, Number) or not self.group else read[2].replace(self.group, "")
-        number = int(read[1] + whole + behind.ljust(self.scale, "0"))
-        self.low = number if self.low is None else min(number, self.low)
-        self.high = number if self.high is None else max(number, self.high)
-        return -GREATEST <= self.low and self.high <= GREATEST
+        number = int(read[1] + whole + (read[3] or ""))
+        return (len(read[3] or ""), number) if abs(number) <= GREATEST else None
+
+    def take(self, text: str) -> None:
+        if read := self.read(text):
+            digits, number = read
+            count, low, high = self.found.get(digits, (0, number, number))
+            self.found[digits] = [count + 1, min(number, low), max(number, high)]
+            self.count += 1
+
+    @property
+    def scale(self) -> int:
+        return next(most for most in sorted(self.found)
+                    if is_most(sum(self.found[digits][0] for digits in self.found if digits <= most), self.count))
+
+    def ends(self) -> Tuple[int, int]:
+        """The least and the greatest of those that the scale takes, in its parts."""
+        taken = [(digits, number) for digits, (_, *both) in self.found.items() for number in both if digits <= self.scale]
+        numbers = [number * 10 ** (self.scale - digits) for digits, number in taken]
+        return min(numbers), max(numbers)
+
+    def takes(self, text: object) -> bool:
+        read = self.read(text)
+        return read is not None and read[0] <= self.scale
+
+
+def is_most(some: int, of: int) -> bool:
+    """Whether some are so many that the others are taken for faults."""
+    return 10 * some >= 9 * of
 
 
 class Column:
@@ -105,8 +133,7 @@ class Column:
         self.place, self.count, self.odd = place, 0, 0
         self.texts: Dict[str, int] = {}
         self.samples: List[str] = []
-        self.read: Set[Tuple[str, bool]] = set()  # the texts, and whether JSON wrote them as numbers
-        self.numbers = [Decimals(*signs) for signs in SIGNS]
+        self.tried = [Decimals(*signs) for signs in SIGNS]
         self.is_many = False
 
     def take(self, text: object) -> None:
@@ -116,18 +143,28 @@ class Column:
         self.count += 1
         if len(self.samples) < MOST_SAMPLES:
             self.samples.append(text)
-        written = text, isinstance(text, Number)
-        if self.numbers and written not in self.read:
-            self.numbers = [numbers for numbers in self.numbers if numbers.take(text)]
+        for numbers in self.tried:
+            numbers.take(text)
+        if self.count == MOST_SAMPLES:  # what hardly is a column of numbers till here, is none
+            self.tried = [numbers for numbers in self.tried if 2 * numbers.count > self.count]
         if text in self.texts or len(self.texts) <= MOST_NAMES:
             self.texts[str(text)] = self.texts.get(text, 0) + 1
-            self.read.add(written)
         else:
             self.is_many = True
+
+    @property
+    def numbers(self) -> List[Decimals]:
+        """By which signs the texts are numbers, where they mostly are: those first that read the most."""
+        read = [numbers for numbers in self.tried if numbers.count and is_most(numbers.count, self.count + self.odd)]
+        return sorted(read, key=lambda numbers: -numbers.count)
 
     def pair(self) -> Optional[Tuple[str, str]]:
         """The words for true and false that its texts are."""
         return next((pair for pair in PAIRS if self.texts.keys() <= set(pair)), None)
+
+    def is_state(self) -> bool:
+        """Whether its texts are words of a state, or one text alone: they don't tell one sender from another."""
+        return len(self.texts) == 1 or all(text.lower() in STATES for text in self.texts)
 
     def has_few(self, most: int) -> bool:
         return len(self.texts) <= most and (len(self.texts) <= FEW or 2 * len(self.texts) <= self.count)
@@ -178,12 +215,15 @@ def key_of(columns: Dict[str, Column], said: Optional[str], time: Column, record
 
     def fits(column: Column) -> bool:
         is_text = not column.numbers and column.pair() is None
-        is_there = 10 * column.count >= 9 * records and column.odd == 0
+        is_there = 2 * column.count > records and column.odd == 0
         return column is not time and is_text and is_there and not column.is_many and column.has_few(MOST_NAMES)
-    some = [column for column in columns.values() if fits(column)]
+
+    # A column that most lines have goes before one that all have and that tells how something went, or always the same.
+    def rank(column: Column) -> tuple:
+        return not column.is_state(), column.count == records, all(map(is_name, column.texts)), len(column.texts)
+    some = sorted(filter(fits, columns.values()), key=rank, reverse=True)
     if not some:
         raise Ended("no text has few values: --key says where the key stands")
-    some.sort(key=lambda column: (column.count == records, all(map(is_name, column.texts)), len(column.texts)), reverse=True)
     return some[0], [column.place for column in some[1:] if len(column.texts) > 1]
 
 
@@ -192,25 +232,33 @@ def key_of(columns: Dict[str, Column], said: Optional[str], time: Column, record
 class Field:
     """A field of the query, and what the source says of it; a doubt is what its texts may mean as well."""
 
-    def __init__(self, name: str, place: str, clause: str, said: Dict[str, object], words: Optional[Dict[str, str]] = None, doubt: str = ""):
+    def __init__(self, name: str, place: str, clause: str, said: Dict[str, object], words: Optional[Dict[str, str]] = None,
+                 doubt: str = "", numbers: Optional[Decimals] = None):
         self.name, self.place, self.clause, self.said, self.words, self.doubt = name, place, clause, said, words or {}, doubt
+        self.numbers = numbers
+
+    def refuses(self, text: object) -> bool:
+        """Whether the source refuses what stands there. Where nothing does there is a default."""
+        return self.numbers is not None and text is not None and not self.numbers.takes(text)
 
 
 def doubt_of(numbers: List[Decimals]) -> str:
     """In which other way the numbers of a column can be read."""
     one = numbers[0]
     for other in numbers[1:]:
-        if one.high * 10**other.scale != other.high * 10**one.scale or one.low * 10**other.scale != other.low * 10**one.scale:
+        scales = 10**one.scale, 10**other.scale
+        if other.count == one.count and any(mine * scales[1] != its * scales[0] for mine, its in zip(one.ends(), other.ends())):
             return f"{one.group or one.point!r} is taken to stand " + (
                 f"between groups of digits; it may stand in front of a fraction: point = {other.point!r}" if one.group == other.point
                 else f"in front of a fraction; it may stand between groups of digits: group = {other.group!r}"
             )
-    return ""
+    finest = max(one.found)
+    return f"some numbers have more digits behind the point than most: scale = {finest} takes them" if finest > one.scale else ""
 
 
 def int_field(name: str, column: Column, is_missing: bool) -> Field:
     numbers = column.numbers[0]
-    low, high = numbers.low, numbers.high
+    low, high = numbers.ends()
     said: Dict[str, object] = {"scale": numbers.scale} if numbers.scale else {}
     if numbers.point != ".":
         said["point"] = numbers.point
@@ -219,7 +267,7 @@ def int_field(name: str, column: Column, is_missing: bool) -> Field:
     if is_missing:
         said["default"] = 0
         low, high = min(low, 0), max(high, 0)
-    return Field(name, column.place, f"FIELD {name} INT {low}..{high};", said, doubt=doubt_of(column.numbers))
+    return Field(name, column.place, f"FIELD {name} INT {low}..{high};", said, doubt=doubt_of(column.numbers), numbers=numbers)
 
 
 def bool_field(name: str, column: Column, is_missing: bool) -> Field:
@@ -243,11 +291,13 @@ def enum_field(name: str, column: Column, is_missing: bool) -> Field:
 
 def why_not(column: Column) -> Optional[str]:
     """Why a column can't be a field."""
+    if column.numbers:
+        return None
     if column.odd:
         return "an array or an object stands there"
     if not column.count:
         return "nothing stands there"
-    if column.numbers or column.pair():
+    if column.pair():
         return None
     if "" in column.texts:
         return "an empty text stands there"
