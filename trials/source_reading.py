@@ -70,6 +70,16 @@ def decimal_of(text, scale=0, point=".", group=None):
 
 # ---- times: nanoseconds since 1970
 
+def seconds_of(text):
+    """Seconds with at most nine digits of a fraction."""
+    read = re.fullmatch(r"(-?)([0-9]+)(?:\.([0-9]{1,9}))?", text)
+    seconds = None if read is None else whole(read[2], read[1] == "-")
+    if seconds is None:
+        return None
+    nanos = int((read[3] or "").ljust(9, "0"))
+    return seconds * 10**9 + (-nanos if read[1] else nanos)
+
+
 def days_of(year, month, day):
     """The days from 1970 to a day of the calendar, which comes again each 400 years; or None where there is no such day."""
     turns = (year - 1) // 400
@@ -278,11 +288,12 @@ class Field:
 
 @dataclass
 class Record:
-    """A record: its key, or None where the text names none; its time; numbers, truths and names."""
+    """A record: its key, or None where the text names none; its time; numbers, truths and names; its identifier, if it has one."""
 
     key: str | None
     time: int
     values: list
+    identifier: str | None = None
 
     def row(self):
         cells = [{True: "true", False: "false"}[value] if isinstance(value, bool) else str(value) for value in self.values]
@@ -311,18 +322,22 @@ class Declared:
 
 
 class Source:
-    """A source, bound to what a query declares. It reads lines one after the other: only CSV looks at the first."""
+    """A source, bound to what a query declares. It reads lines one after the other."""
 
     def __init__(self, text, query, folder="."):
-        self.said = said = tomllib.loads(text)
-        self.declared = Declared(query)
+        said, self.declared = tomllib.loads(text), Declared(query)
+        if said["format"] == "rows":  # their places are the numbers of cells
+            fields = {declared.name: {"at": 3 + number} for number, declared in enumerate(self.declared.fields)}
+            said |= {"key": {"at": 1}, "time": {"at": 2, "form": "seconds"}, "fields": fields}
+        self.said = said
         self.format, self.longest = said["format"], said.get("longest", 1048576)
         self.separator = said.get("separator", ",")
-        self.key, self.time = said["key"], said["time"]
+        self.key, self.time, self.identifier = said["key"], said["time"], said.get("identifier")
         self.fields = [(declared, said.get("fields", {}).get(declared.name, {})) for declared in self.declared.fields]
+        self.has_begun = False  # a byte order mark in front of the first line is no part of it
         self.header = None  # the first line of CSV, its number of cells and where its names stand; False where it is none
         if "names" in self.key:
-            with open(Path(folder) / self.key["names"], encoding="utf-8", newline="") as file:
+            with open(Path(folder) / self.key["names"], encoding="utf-8-sig", newline="") as file:
                 self.names = {}
                 for name, key in csv.reader(file, strict=True):
                     self.names.setdefault(name, key)
@@ -334,12 +349,12 @@ class Source:
 
     def read(self, line):
         """What a line of bytes says, or the word of its first fault."""
-        line = line.removesuffix(b"\r")
+        line, is_first, self.has_begun = line.removesuffix(b"\r"), not self.has_begun, True
         try:
             try:
                 if len(line) > self.longest:
                     raise Unread("TooLong")
-                text = line.decode()
+                text = (line.removeprefix(b"\xef\xbb\xbf") if is_first else line).decode()
             except (Unread, UnicodeDecodeError) as why:
                 if self.header is None:
                     self.header = False
@@ -355,6 +370,11 @@ class Source:
             return lambda at: at_members(value, names_of(at))
         if self.format == "access":
             return access_cells(text).__getitem__
+        if self.format == "rows":
+            cells = csv_cells(text, ",")
+            if cells is None or len(cells) != 3 + len(self.fields) or cells[0] != "r":
+                raise Unread("NotRow")
+            return lambda at: cells[at] or None
         cells = self.row_of(text)
         return lambda at: cells[self.header[2][at]] or None
 
@@ -362,6 +382,7 @@ class Source:
         if self.header is None:
             cells = csv_cells(text, self.separator)
             asked = [self.key["at"], self.time["at"], *(said.get("at", declared.name) for declared, said in self.fields)]
+            asked += [self.identifier["at"]] if self.identifier else []
             self.header = cells is not None and all(name in cells for name in asked) and (
                 text, len(cells), {name: cells.index(name) for name in asked}
             )
@@ -380,7 +401,11 @@ class Source:
     def record_of(self, at):
         key = self.key_of(self.text_of(at(self.key["at"]), "NoKey", "BadKey"))
         time = self.time_of(self.text_of(at(self.time["at"]), "NoTime", "BadTime"))
-        return Record(key, time, [self.value_of(declared, said, at(said.get("at", declared.name))) for declared, said in self.fields])
+        values = [self.value_of(declared, said, at(said.get("at", declared.name))) for declared, said in self.fields]
+        identifier = at(self.identifier["at"]) if self.identifier else None
+        if identifier is ODD or identifier is not None and not 0 < len(identifier.encode()) < 256:
+            raise Unread("BadIdentifier")
+        return Record(key, time, values, identifier)
 
     @staticmethod
     def text_of(scalar, missing, bad):
@@ -405,8 +430,7 @@ class Source:
         elif form == "rfc3339":
             nanos = rfc_3339(text)
         elif form == "fraction":
-            count = decimal_of(text, 6)
-            nanos = None if count is None else count * 1000
+            nanos = seconds_of(text)
         else:
             count = decimal_of(text)
             nanos = None if count is None else count * UNITS[form]
@@ -505,7 +529,11 @@ TIMES = [
     ({"form": "seconds", "unit": "microseconds"}, {"9223372036855": "BadTime", "9223372036854": 9223372036854000000}),
     ({"form": "fraction", "unit": "milliseconds"}, {
         "1773255600.123": 1773255600123, "1773255600.1": 1773255600100, "-0.001": -1, "-0.0011": -2, "1773255600": 1773255600000,
-        "1773255600.1234567": "BadTime", "1773255600.": "BadTime",
+        "1773255600.1234567": 1773255600123, "1773255600.": "BadTime",
+    }),
+    ({"form": "fraction", "unit": "microseconds"}, {
+        "1773255600.999999999": 1773255600999999, "-0.000000001": -1, "-1.000001": -1000001, "1773255600.0000000000": "BadTime", ".5": "BadTime",
+        "9223372036854.775807999": 2**63 - 1, "9223372036854.775808": "BadTime", "-9223372036854.775808": -2**63, "-9223372036854.775808001": "BadTime",
     }),
     (BERLIN, {
         "2026-03-11 20:00": 1773255600, "2026-03-29 01:59": 1774745940, "2026-03-29 02:30": "BadTime", "2026-03-29 03:00": 1774746000,
@@ -530,6 +558,8 @@ form = "seconds"
 default = false
 [fields.color]
 words = { rot = "red" }
+[identifier]
+at = "/id/nr"
 """
 JSON_LINES = {
     '{"k":{"0":"a"},"t":5,"n":7,"yes":true,"color":"rot"}': "r,a,5,7,true,red", '{"k":{"0":"c"},"t":"5","n":"7","color":"blue"}': "r,,5,7,false,blue",
@@ -540,6 +570,11 @@ JSON_LINES = {
     "": "NotJson", "[]": "NoKey", '"a"': "NoKey", "NaN": "NotJson", '\ufeff{}': "NotJson", '{"k":"\\ud800"}': "NotJson",
     '{"k":"\\ud800","k":1}': "NotJson", "[" * 128 + "]" * 128: "NoKey", "[" * 129 + "]" * 129: "NotJson", '{"k":{"0":"a\\nb"},"t":5}': "BadKey",
     '{"k":{"0":"' + "a" * 256 + '"},"t":5}': "BadKey", '{"k":{"0":"' + "\u00e9" * 127 + '"},"t":5}': "NoField", '{"k":{"0":"a"},"t":5}\r': "NoField",
+    '{"k":{"0":"a"},"t":5,"n":1,"color":"red","id":{"nr":""}}': "BadIdentifier", '{"k":{"0":"a"},"t":5,"n":1,"color":"red","id":{"nr":[]}}': "BadIdentifier",
+    '{"k":{"0":"a"},"t":5,"n":1,"color":"red","id":{"nr":"' + "x" * 255 + '"}}': "r,a,5,1,false,red",
+    '{"k":{"0":"a"},"t":5,"n":1,"color":"red","id":{"nr":"' + "x" * 256 + '"}}': "BadIdentifier",
+    '{"k":{"0":"a"},"t":5,"n":1,"color":"red","id":{"nr":1.0}}': "r,a,5,1,false,red",
+    '{"k":{"0":"a"},"t":5,"n":1,"color":"red","id":null}': "r,a,5,1,false,red", '{"k":{"0":"a"},"t":5,"id":{"nr":[]}}': "NoField",
     '{"k":{"0":"a"},"t":01}': "NotJson", '{"k":{"0":"a"},"t":"01","n":"-0","color":"red"}': "r,a,1,0,false,red",
 }
 CSV_SOURCE = """format = "csv"
@@ -560,7 +595,7 @@ false = "nein"
 default = "blue"
 """
 CSV_LINES = [
-    ("k;yes;n;t;color;more", "Header"), ("a;ja;1.234,5;5;red;x", "r,a,5,12345,true,red"), ('"a";"nein";"0";"5";"";""', "r,a,5,0,false,blue"),
+    ("\ufeffk;yes;n;t;color;more", "Header"), ("a;ja;1.234,5;5;red;x", "r,a,5,12345,true,red"), ('"a";"nein";"0";"5";"";""', "r,a,5,0,false,blue"),
     ("k;yes;n;t;color;more\r", "Header"), ("a;ja;1;5", "CellCount"), ('a;ja;1;5;red;"x', "NotCsv"), ('a;ja;1;5;red;"x"y', "NotCsv"),
     ('a;ja;1;5;red;x"y"', "NotCsv"), ('a;ja;1;5;red;"x;""y"""', "r,a,5,10,true,red"), (";ja;1;5;red;x", "NoKey"), ("a;ja;1;;red;x", "NoTime"),
     ("a;ja;;5;red;x", "NoField"), ("a;Ja;1;5;red;x", "BadBool"), ("a;ja;1,55;5;red;x", "BadDecimal"), ("a;ja;1;5;green;x", "BadEnum"),
@@ -595,6 +630,12 @@ ACCESS_LINES = {
     '::1 - - [11/Mar/2026:20:00:00 +0000] "PUT /x HTTP/1.1" 200 - "-" "-"': "BadEnum",
     '::1 - - [11/Mar/2026:20:00:00] "GET /x HTTP/1.1" 200 - "-" "-"': "BadTime",
 }
+ROWS_LINES = [
+    ("r,a,5,7,true,red", "r,a,5,7,true,red"), ('"r","a","5","7","true","red"', "r,a,5,7,true,red"), ("r,c,-5,7,true,red", "r,,-5,7,true,red"),
+    ("w,5", "NotRow"), ("R,a,5,7,true,red", "NotRow"), ("r,a,5,7,true", "NotRow"), ("r,a,5,7,true,red,", "NotRow"), ('r,a,5,7,true,"red', "NotRow"),
+    ("", "NotRow"), ("r,,5,7,true,red", "NoKey"), ("r,a,,7,true,red", "NoTime"), ("r,a,5.0,7,true,red", "BadTime"), ("r,a,5,,true,red", "NoField"),
+    ("r,a,5,7.0,true,red", "BadWhole"), ("r,a,5,7,TRUE,red", "BadBool"), ("r,a,5,7,true,rot", "BadEnum"),
+]
 # A rule, stamps of clocks, and the watermarks that they raise.
 MARKS = [
     ({"agree": 1, "bound": 20, "step": 10}, [(1, 100), (2, 90), (3, 95), (3, 31536095), (1, 130), (2, 140)], [80, None, None, 31536070, None, None]),
@@ -612,7 +653,7 @@ def try_cases():
         said += [(text, decimal_of(text, *form), number) for text, number in cases.items()]
     for form, cases in TIMES:
         said += [(text, second(text, **form), time) for text, time in cases.items()]
-    for toml, lines in ((JSON_SOURCE, JSON_LINES.items()), (CSV_SOURCE, CSV_LINES), (ACCESS_SOURCE, ACCESS_LINES.items())):
+    for toml, lines in ((JSON_SOURCE, JSON_LINES.items()), (CSV_SOURCE, CSV_LINES), (ACCESS_SOURCE, ACCESS_LINES.items()), ('format = "rows"', ROWS_LINES)):
         source = Source(toml, QUERY)
         for line, want in lines:
             got = source.read(line.encode())
