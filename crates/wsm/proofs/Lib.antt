@@ -1,6 +1,5 @@
-pub mod Judgements
 pub mod TurnLines
 pub mod RowTurns
 pub mod Texts
 pub mod SameText
-pub mod RunsBeforeRows
+pub mod SaidTexts

@@ -2,7 +2,7 @@
 use Rattle.std.proofs.Common.{◌≡◌, ◌∙◌, ◌++◌, ◌∷◌, ℕ, false, List, [], map, reverse, Option, Some, None, Result, Err, refl, sym, ap, subst, append-nil}
 use Rattle.std.proofs.lemmas.List.{map-append, reverse-append}
 use Rattle.std.proofs.lemmas.List.Concat.{flat_map-append}
-use Rattle.std.specs.Io.KnownBytes.{Appends, Keeps}
+use Rattle.std.specs.Io.KnownBytes.{Appends}
 use Rattle.csv.specs.Reading.{Reached, strip_bom}
 use Rattle.csv.specs.declared.parser.State.TheVariants as st
 use Rattle.wsm_semantics.specs.Lines.{Row, lines_so_far, turn_lines, end_line}
@@ -18,9 +18,9 @@ use Rattle.wsm_semantics.specs.declared.ending.Totals.{Totals}
 use Rattle.wsm.specs.declared.turns.Turns.{Turns}
 use Rattle.wsm_machine.specs.Meaning.{query_of}
 use Rattle.wsm_semantics.specs.Query.{Query as Meant}
-use Rattle.wsm.specs.declared.end.End.{End}
-use Rattle.wsm.specs.declared.end.End.TheVariants.{ReadFailed}
-use Rattle.wsm.specs.Ends.{end_of_read, hides_memory}
+use Rattle.wsm_inputs.specs.declared.end.End.{End}
+use Rattle.wsm_inputs.specs.declared.end.End.TheVariants.{ReadFailed}
+use Rattle.wsm_inputs.specs.Ends.{end_of_read, hides_memory}
 use Rattle.wsm.specs.Written.{Cells, EndsEarly, input_text, rows_of, turns_text}
 use Rattle.wsm.specs.Turns.{Ends, Fits, Stands, Turned}
 
@@ -48,10 +48,6 @@ pub AreFirst-none : (known : Option (List ℕ)) → AreFirst known []
 unfolding Reached
 AreFirst-none None = tt
 AreFirst-none (Some bytes) = (st.StartRecord, strip_bom bytes, (refl, refl))
-
-pub Keeps-same : (known : Option (List ℕ)) → Keeps known known
-Keeps-same None = tt
-Keeps-same (Some bytes) = refl
 
 -- before the first row
 pub Appends-none : (a : Meant) (known : Option (List ℕ)) → Appends known known (turns_text a [])

@@ -1,15 +1,20 @@
 -- What a run writes for the rows that it reads, and how it ends.
-use Rattle.std.specs.Prelude.{◌≡◌, ◌⊎◌, ℕ, List, Option, Result, Err, map, reverse}
-use Rattle.std.specs.Io.KnownBytes.{Appends, Keeps}
+use Rattle.std.specs.Prelude.{◌≡◌, ◌⊎◌, ℕ, List, Option, map, reverse}
+use Rattle.std.specs.Io.KnownBytes.{Appends}
 use Rattle.wsm_semantics.specs.Lines.{Row, Line, End, lines_so_far, end_line}
 use Rattle.wsm_semantics.specs.Text.{lines_text, text}
 use Rattle.wsm_semantics.specs.declared.ending.Totals.{Totals}
 use Rattle.wsm_csv.specs.Cells.{event_of_cells}
 use Rattle.wsm_csv.specs.Device.{TakesPart}
 use Rattle.wsm_csv.specs.Records.{AreAll, AreFirst}
-use Rattle.wsm.specs.declared.end.End.{End as Ending}
-use Rattle.wsm.specs.declared.end.End.TheVariants as ends
+use Rattle.wsm_inputs.specs.declared.end.End.{End as Ending}
+use Rattle.wsm_inputs.specs.declared.end.End.TheVariants as ends
 use Rattle.wsm_semantics.specs.Query.{Query as Meant}
+use Rattle.wsm_query.specs.Tree.{Query}
+use Rattle.wsm_compiler.specs.Means.{meant}
+use Rattle.wsm_inputs.specs.declared.input.Input.{Input}
+use Rattle.wsm_inputs.specs.declared.input.Input.TheVariants as input
+use Rattle.wsm_inputs.specs.TextOf.{IsTextOf}
 
 -- the cells of a row
 abbrev pub Cells : Type 0
@@ -60,11 +65,6 @@ EndsEarly known q cells old new ends.Memory = BreaksOff known q cells old new
 EndsEarly known q cells old new ends.ReadFailed = BreaksOff known q cells old new
 EndsEarly known q cells old new ends.WriteFailed = BreaksWithin known q cells old new ⊎ BreaksLast known q cells old new
 
--- a run that isn't begun: it ends so, or for want of memory, and nothing was written
-pub record NeverBegins (why : Ending) (old new : Option (List ℕ)) (result : Result Totals Ending) : Type 0 where
-  pub end : (result ≡ Err why) ⊎ (result ≡ Err ends.Memory)
-  pub kept : Keeps old new
-
 -- all rows were read, and what the query means for them was written
 abbrev pub RowsWritten : Option (List ℕ) → Option (List ℕ) → Option (List ℕ) → Meant → Totals → Type 0
 RowsWritten known old new q totals = (cells : List Cells) × Completes known q cells old new totals
@@ -72,3 +72,12 @@ RowsWritten known old new q totals = (cells : List Cells) × Completes known q c
 -- a beginning of that was written
 abbrev pub RowsBroken : Option (List ℕ) → Option (List ℕ) → Option (List ℕ) → Meant → Ending → Type 0
 RowsBroken known old new q end = (cells : List Cells) × EndsEarly known q cells old new end
+
+-- the text says a query, all rows were read, and what the query means for them was written
+abbrev pub TextWritten : List ℕ → Option (List ℕ) → Option (List ℕ) → Option (List ℕ) → Totals → Type 0
+TextWritten text known old new totals = (q : Query) × IsTextOf text q × RowsWritten known old new (meant q) totals
+
+-- the same of an input that is a text; of a program nothing is said here
+abbrev pub InputWritten : Input → Option (List ℕ) → Option (List ℕ) → Option (List ℕ) → Totals → Type 0
+InputWritten (input.Text text) known old new totals = TextWritten text.now known old new totals
+InputWritten (input.Program bytes) known old new totals = Unit {0}

@@ -52,33 +52,24 @@
 //! with its first [`InputRefusal`], a program that is not accepted with the verifier's rejection, and then
 //! nothing is written.
 //!
-//! [`compile_text`] gives the bytes of a query's program, [`migrate`] those of a program in the version
-//! that is written; [`judge`] writes what the verifier says of a program, and [`judge_input`] of that of
-//! a query too. `inputs` goes from texts and bytes to verified programs, `turns` keeps what the rows so far
-//! come to, and `run` goes from the reader to the device. [`command_of`] reads the words of the program's command.
+//! `turns` keeps what the rows so far come to, and `run` goes from the reader to the device. What goes from
+//! texts and bytes to programs, as [`compile_text`], [`migrate`] and [`judge_input`], stands in `wsm_inputs`, and
+//! [`command_of`], which reads the words of the program's command, in `wsm_words`: both are handed on.
 #![tactic(auto)]
 
-pub use compile::compile_text;
-pub use end::{End, InputRefusal, REJECTED_STATUS, status_of};
-pub use input::Input;
-pub use inputs::accepted_of;
-pub use judging::{judge, judge_input};
-pub use migrating::migrate;
 pub use run::{run_input, run_program, run_query};
 pub use wsm_check::{CheckFault, CodeLimit, Part};
 pub use wsm_csv::{Device, DeviceFault, Guarded, Rows, write_out};
 pub use wsm_deal::{Ahead, Part as DealtPart, Shares, SharesRefusal, deal};
 pub use wsm_engine::Totals;
+pub use wsm_inputs::{
+    End, Input, InputRefusal, REJECTED_STATUS, accepted_of, compile_text, judge, judge_input,
+    migrate, status_of,
+};
 pub use wsm_program::DecodeRefusal;
 pub use wsm_rules::Rejection;
 pub use wsm_tokens::{Fault, Position};
 pub use wsm_words::{Job, WordsRefusal, command_of};
 
-mod compile;
-mod end;
-mod input;
-mod inputs;
-mod judging;
-mod migrating;
 mod run;
 mod turns;

@@ -5,19 +5,18 @@ ghost use Rattle.wsm_program.specs.Program.{Program as Value};
 ghost use Rattle.wsm_csv.specs.Records.{AreAll};
 ghost use Rattle.wsm_csv.specs.Rows.{Follows, error_of, read_end};
 ghost use Rattle.wsm_machine.specs.Meaning.{query_of};
-ghost use Rattle.wsm.specs.Ends.{hides_memory};
-ghost use Rattle.wsm.specs.Inputs.{EndsAs};
-ghost use Rattle.wsm.specs.Written.{Cells, Completes, EndsEarly, RowsBroken, RowsWritten};
+ghost use Rattle.wsm_inputs.specs.Ends.{hides_memory};
+ghost use Rattle.wsm_inputs.specs.Inputs.{EndsAs};
+ghost use Rattle.wsm.specs.Written.{Cells, Completes, EndsEarly, InputWritten, RowsBroken, RowsWritten, TextWritten};
+ghost use Rattle.wsm.specs.Fitting.{ByRanges, InputByRanges};
 ghost use Rattle.wsm.specs.Turns.{Fits, Stands};
 
-use crate::end::End;
-use crate::input::Input;
-use crate::inputs::accepted_of;
 use crate::turns::Turns;
 use std::alloc::Global;
 use std::io::Read;
 use wsm_csv::{Device, ReadEnd, Rows};
 use wsm_engine::Totals;
+use wsm_inputs::{End, Input, accepted_of};
 use wsm_rules::Verified;
 
 /// Runs the query of a text over the rows of a reader, as [`run_input`] does.
@@ -32,8 +31,10 @@ pub fn run_query<R: Read + Drop, D: Device>(
     out: &mut D,
 ) -> Result<Totals, End>
     requires { D.has_failed out.old ≡ false }
-    ensures { EndsAs (Input.Text text.entry) (RowsWritten (R.remaining reader) (D.taken out.old) (D.taken out.new)) (RowsBroken (R.remaining reader) (D.taken out.old) (D.taken out.new))
+    ensures ends { EndsAs (Input.Text text.entry) (RowsWritten (R.remaining reader) (D.taken out.old) (D.taken out.new)) (RowsBroken (R.remaining reader) (D.taken out.old) (D.taken out.new))
         (D.taken out.old) (D.taken out.new) (D.is_flushed out.new) (D.has_failed out.new) result }
+    ensures well { IfOk result (TextWritten text.now (R.remaining reader) (D.taken out.old) (D.taken out.new)) }
+    ensures ranges { ByRanges text.now result }
 {
     let mut rows = Rows::new(alloc, reader);
     run_input(alloc, Input::Text(text), &mut rows, out)
@@ -81,6 +82,8 @@ pub fn run_input<R: Read + Drop, D: Device>(
     ensures ends { (known : Option (List ℕ)) → Follows R.remaining known [] rows.old →
         EndsAs input.entry (RowsWritten known (D.taken out.old) (D.taken out.new)) (RowsBroken known (D.taken out.old) (D.taken out.new))
         (D.taken out.old) (D.taken out.new) (D.is_flushed out.new) (D.has_failed out.new) result }
+    ensures well { (known : Option (List ℕ)) → Follows R.remaining known [] rows.old → IfOk result (InputWritten input.entry known (D.taken out.old) (D.taken out.new)) }
+    ensures ranges { InputByRanges input.entry result }
     ensures read_failed { result ≡ Err End.ReadFailed → read_end (error_of rows.new) ≡ ReadEnd.Failed }
 {
     let verified = accepted_of(alloc, input)?;

@@ -41,6 +41,7 @@ pub mod Costs
 pub mod Lawful
 pub mod ColumnLabels
 pub mod Total
+pub mod ColumnEnums
 pub mod TotalPanes
 pub mod FiringSets
 pub mod SameLines

@@ -36,6 +36,8 @@ use Rattle.wsm_compiler.specs.Folded.{AreUpdates}
 use Rattle.wsm_compiler.specs.SameMeaning.{IsAccepted, record_in_range, IsPane, HasValue, UpdatesHold, TotalOnPanes, AreOfKey, StandsForMeant}
 use Rattle.wsm_machine.proofs.AccumulatorRanges.{accs_types}
 use Rattle.wsm_compiler.proofs.Parts.{none≢some}
+use Rattle.wsm_compiler.proofs.Checked.{fine}
+use Rattle.wsm_compiler.proofs.ColumnEnums.{typed_column, typed_columns}
 use Rattle.wsm_compiler.proofs.Aggregated.{free, fire_means}
 use Rattle.wsm_compiler.proofs.QueryTerms.{kinds_are}
 use Rattle.wsm_compiler.proofs.ColumnFolds.{folds_hold}
@@ -56,7 +58,7 @@ module _ (q : Query) (key : ℕ) (records : List (List Value)) where
   -- columns from one on have values, which are pushed, and then HAVING
   record Fired (es : List Expr) (stack out : List Cell) : Type 0 where
     cells : List Cell
-    cells_are : all_of (map (column q s) es) ≡ Some cells
+    cells_are : all_of (map (typed_column q s) es) ≡ Some cells
     columns : AllByRecursion (HasValue q s) es
     top : Value
     top_is : condition_value q s 0 q.having ≡ Some top
@@ -80,7 +82,7 @@ module _ (q : Query) (key : ℕ) (records : List (List Value)) where
   column_fired : (e : Expr) (es : List Expr) (stack out : List Cell) (v : Value) → in_bounds q s 0 e ≡ Some v → Fired es (cell (column_type q e) v ∷ stack) out → Fired (e ∷ es) stack out
   column_fired e es stack out v h f =
       let it : Cell = cell (column_type q e) v in
-      let is : column q s e ≡ Some it = ap (option_map (cell (column_type q e))) (in_bounds_is (meets_i64 q s 0 e) (meaning q s e) v h).0 in
+      let is : typed_column q s e ≡ Some it = ap (option_map (cell (column_type q e))) (in_bounds_is (meets_i64 q s 0 e) (meaning q s e) v h).0 in
       record {
         cells = it ∷ f.cells;
         cells_are = (λ i. elim (is i) as (λ x. Option (List Cell)) [ None ↦ None | Some x ↦ elim (f.cells_are i) as (λ y. Option (List Cell)) [ None ↦ None | Some xs ↦ Some (x ∷ xs) ] ]);
@@ -184,7 +186,8 @@ module _ (q : Query) (a : IsAccepted q) (key : ℕ) where
         let says_top : program.says_true ran ≡ condition_holds q (on_records q key records) q.having =
         says ran f.top f.rest (ends q a Fire d ranged) f.out_is ∙ sym (condition_has q (on_records q key records) q.having f.top f.top_is).1 in
         let columns : Some (program.cells_below ran.stack) ≡ all_of (map (column q (on_records q key records)) q.columns) =
-        ap (λ (cs : List Cell). Some (program.cells_below cs)) f.out_is ∙ ap (λ (cs : List Cell). Some cs) f.rest_is ∙ sym f.cells_are in
+        ap (λ (cs : List Cell). Some (program.cells_below cs)) f.out_is ∙ ap (λ (cs : List Cell). Some cs) f.rest_is ∙ sym f.cells_are
+        ∙ ap all_of (typed_columns q (on_records q key records) q.columns (fine q p.header.budget a.checked).columns) in
         (λ i. cond (says_top i) (columns i) None)
 
     pub row_is : option_and_then (program.row p key (length records)) (folds_of p.header.kinds (rows records)) ≡ row q key records

@@ -1,11 +1,11 @@
 -- What an expression means, in whole numbers without bound: no stack, no jumps, no width. It is partial, and AND, OR and IF
 -- evaluate only what they need.
-use Rattle.std.specs.Prelude.{ℕ, ◌+◌, Bool, true, false, not, cond, List, [], ◌∷◌, ◌++◌, length, map, ℤ, pos, neg_ℤ, int_div, int_rem, nat_eq, Option, Some, None, option_map, slice_get}
+use Rattle.std.specs.Prelude.{ℕ, suc, ◌+◌, Bool, true, false, not, cond, List, [], ◌∷◌, ◌++◌, length, map, ℤ, pos, neg_ℤ, int_div, int_rem, nat_eq, Option, Some, None, option_map, slice_get}
 use Rattle.std.specs.List.{list_all}
 use Rattle.std.specs.Ordering.{int_eq}
 use Rattle.wsm_record.specs.declared.event.Value.{Value}
 use Rattle.wsm_record.specs.declared.cell.Cell.{Cell}
-use Rattle.wsm_record.specs.Types.{cell}
+use Rattle.wsm_record.specs.Types.{cell_of}
 use Rattle.wsm_record.specs.declared.event.Value.TheVariants.{Int, Bool as Truth', Enum}
 use Rattle.wsm_record.specs.declared.words.Kind.{Kind}
 use Rattle.wsm_record.specs.Schema.{is_i64}
@@ -19,7 +19,6 @@ use Rattle.wsm_query.specs.declared.expr.Op.TheVariants.{Compute, Compare}
 use Rattle.wsm_query.specs.Tree.{Query, Expr, Number, Truth, Field, EnumName, Key, KeyName, Count, Aggregate, If, Brackets, Minus, Not, Binary, And, Or}
 use Rattle.wsm_check.specs.Names.{place_of, field_place, name_place}
 use Rattle.wsm_check.specs.Aggregates.{aggregates}
-use Rattle.wsm_check.specs.Parts.{column_type}
 
 -- an operator on two numbers, with no value at a zero divisor
 abbrev pub on_numbers : Op → ℤ → ℤ → Option Value
@@ -131,9 +130,16 @@ condition_holds q s (Some e) = is_true (meaning q s e)
 abbrev pub selects : Query → ℕ → List Value → Bool
 selects q key values = condition_holds q (on_record key values) q.condition
 
--- a column, with its type
+-- the ENUM that a column's values are of, if they are of one: the key's is 0, and a field's the place behind the field's
+abbrev pub column_enum : Query → Expr → ℕ
+column_enum q (EnumName x y) = suc (field_place q.fields x)
+column_enum q (If c x y) = column_enum q x
+column_enum q (Brackets e) = column_enum q e
+column_enum q e = 0
+
+-- a column, with the ENUM of its values
 abbrev pub column : Query → Scene → Expr → Option Cell
-column q s e = option_map (cell (column_type q e)) (meaning q s e)
+column q s e = option_map (cell_of (column_enum q e)) (meaning q s e)
 
 -- the columns over a key and its records, where HAVING is true
 abbrev pub row : Query → ℕ → List (List Value) → Option (List Cell)

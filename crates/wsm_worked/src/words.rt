@@ -14,7 +14,7 @@ fn job(alloc: Global, words: &[&str]) -> Result<String, Fail> {
     }
 }
 
-const JOBS: [(&[&str], &str); 18] = [
+const JOBS: [(&[&str], &str); 20] = [
     (
         &["wsm", "run", "q"],
         "Run { program: false, from: None, query: \"q\", rows: None }",
@@ -87,6 +87,23 @@ const JOBS: [(&[&str], &str); 18] = [
         &["wsm", "rows", "s", "--program", "p", "-"],
         "Rows { program: true, source: \"s\", query: \"p\", rows: None }",
     ),
+    (
+        &["wsm", "keep", "q"],
+        "Keep { program: false, taken: None, most: None, query: \"q\", rows: None }",
+    ),
+    (
+        &[
+            "wsm",
+            "keep",
+            "--taken",
+            "5",
+            "--program",
+            "p",
+            "--most=9",
+            "r",
+        ],
+        "Keep { program: true, taken: Some(\"5\"), most: Some(\"9\"), query: \"p\", rows: Some(\"r\") }",
+    ),
 ];
 
 #[test]
@@ -131,7 +148,8 @@ fn refusals_are_told_as_themselves(rt: HostRuntime) {
 #[test]
 fn the_version_is_told(rt: HostRuntime) -> Result<(), Fail> {
     let text = job(rt.alloc(), &["wsm", "--version"])?;
-    let want = "wsm 1.2.0 (kit 13f, commit 0000000000000000000000000000000000000000)\n";
+    let want =
+        "wsm 1.2.0 (kit 000, logic 0000000000000000, commit 0000000000000000000000000000000000000000)\n";
     assert_eq!(rt; text.as_str(), want);
     Ok(())
 }

@@ -3,7 +3,7 @@ use Rattle.std.specs.Prelude.{Result, Ok, Err, IfErr, IfOk, List}
 use Rattle.std.proofs.lemmas.Result.{err_from_is_err_and}
 use Rattle.wsm_semantics.specs.declared.ending.Totals.{Totals}
 use Rattle.wsm_machine.specs.Meaning.{query_of}
-use Rattle.wsm.specs.declared.end.End.{End}
+use Rattle.wsm_inputs.specs.declared.end.End.{End}
 use Rattle.wsm.specs.Written.{Cells, Completes, EndsEarly}
 use Rattle.wsm.proofs.Texts.{AreFirst-none, Appends-none}
 use Rattle.wsm.proofs.run.run_verified.Goals as goal
