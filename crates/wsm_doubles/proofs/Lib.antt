@@ -1,5 +1,5 @@
 mod LastEnds
 mod Entries
-mod Forgotten
+pub mod Forgotten
 mod Numbers
 mod Followed

@@ -20,21 +20,21 @@ const LEAST_ROOM: usize = 4096;
 /// identifiers as were left the last time, and 4,096 at least.
 #[derive(Drop)]
 pub struct Doubles {
-    times: IndexMap<String, i64>,
+    times: IndexMap<Vec<u8>, i64>,
     // With as many identifiers those that can't count any more are dropped.
     room: usize,
 }
 
 impl Model for Doubles {
     ghost use Rattle.std.specs.List.{IsDistinct};
-    ghost use Rattle.std.specs.Prelude.{◌≤◌, bytes_eq, length, map, string_bytes};
+    ghost use Rattle.std.specs.Prelude.{◌≤◌, bytes_eq, length, map};
     ghost use Rattle.wsm_doubles.specs.Memory.{Kept, least_room};
 
     ghost Value = { Kept };
 
-    ghost view = { λ a. record { entries = map (λ e. (string_bytes e.0, e.1)) a.times.entries; room = a.room } };
+    ghost view = { λ a. record { entries = map (λ e. (e.0.items, e.1)) a.times.entries; room = a.room } };
 
-    ghost invariant = { λ a. IsDistinct (λ x y. bytes_eq (string_bytes x) (string_bytes y)) (map (λ e. e.0) a.times.entries)
+    ghost invariant = { λ a. IsDistinct (λ x y. bytes_eq x.items y.items) (map (λ e. e.0) a.times.entries)
         × (length a.times.entries ≤ a.room) };
 }
 
@@ -58,7 +58,7 @@ impl Doubles {
 
     /// Whether a record with this identifier is a double at a watermark: one with the identifier passed,
     /// and a record of its time isn't late there.
-    pub fn is_double(&self, identifier: &str, clock: &Clock, shape: Shape, mark: i64) -> bool
+    pub fn is_double(&self, identifier: &[u8], clock: &Clock, shape: Shape, mark: i64) -> bool
         requires { IsShape shape }
         ensures known { result ≡ is_known clock.now shape mark identifier.now self.now }
         ensures recalled { (memory : Memory) → Recalls clock.now shape mark self.now memory → result ≡ knows identifier.now memory }
@@ -80,7 +80,7 @@ impl Doubles {
     /// one.
     pub fn note(
         &mut self,
-        identifier: &str,
+        identifier: &[u8],
         time: i64,
         clock: &Clock,
         shape: Shape,
@@ -128,7 +128,7 @@ impl Doubles {
     // Keeps an identifier with a time. By each test of times that passes none which it had, it is known then
     // where the new time passes, and each other one as before.
     #[inline(always)]
-    fn keep(&mut self, identifier: &str, time: i64) -> Result<(), AllocError>
+    fn keep(&mut self, identifier: &[u8], time: i64) -> Result<(), AllocError>
         requires { length self.old.entries < self.old.room }
         ensures kept { (test : ℤ → Bool) → knows identifier.now (filter (λ k. test k.1) self.old.entries) ≡ false
             → OnOk result ((i : List ℕ) → knows i (filter (λ k. test k.1) self.new.entries)
@@ -137,18 +137,18 @@ impl Doubles {
         ensures within { length self.new.entries ≤ self.new.room }
         ensures unchanged { OnErr result (self.new ≡ self.old) }
     {
-        let text = String::from_str(*self.times.allocator(), identifier)?;
+        let text = identifier.to_vec(*self.times.allocator())?;
         self.times.insert(text, time)?;
         Ok(())
     }
 }
 
 // Drops the entries whose time is late.
-fn drop_late(times: &mut IndexMap<String, i64>, moment: Moment)
+fn drop_late(times: &mut IndexMap<Vec<u8>, i64>, moment: Moment)
     ensures { times.new.entries ≡ filter (λ e. not (is_late moment.clock moment.shape moment.mark e.1)) times.old.entries }
 {
     times.retain(
-        |_: &String, time: &mut i64| -> bool
+        |_: &Vec<u8>, time: &mut i64| -> bool
             ensures { (result ≡ not (is_late moment.clock moment.shape moment.mark time.old)) × (time.new ≡ time.old) }
         { !moment.is_late(*time) },
     );

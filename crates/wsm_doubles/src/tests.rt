@@ -19,14 +19,15 @@ fn few_are_kept(rt: HostRuntime) -> Result<(), Fail> {
     let shape = Shape::Fixed(60);
     let mut doubles = Doubles::new(rt.alloc());
     for number in 0..20_000u64 {
-        let identifier = format!(in rt.alloc(); "order {number}")?;
+        let text = format!(in rt.alloc(); "order {number}")?;
+        let identifier = text.as_bytes();
         let time = number as i64;
-        if !doubles.is_double(&identifier, &CLOCK, shape, time) {
-            doubles.note(&identifier, time, &CLOCK, shape, time)?;
+        if !doubles.is_double(identifier, &CLOCK, shape, time) {
+            doubles.note(identifier, time, &CLOCK, shape, time)?;
         }
     }
     assert!(rt; doubles.len() <= 4096);
-    let last = "order 19999";
+    let last = b"order 19999";
     assert!(rt; doubles.is_double(last, &CLOCK, shape, 20_009));
     assert!(rt; !doubles.is_double(last, &CLOCK, shape, 20_010));
     Ok(())

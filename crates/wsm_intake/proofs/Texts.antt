@@ -7,7 +7,7 @@ use Rattle.wsm_semantics.specs.declared.ending.Totals.{Totals}
 use Rattle.wsm_program.specs.Program.{Program}
 use Rattle.wsm_machine.specs.Meaning.{query_of}
 use Rattle.wsm_lines.specs.declared.source.Source.{Source}
-use Rattle.wsm_intake.specs.declared.clocks.Clocks.{Clocks}
+use Rattle.wsm_turns.specs.declared.clocks.Clocks.{Clocks}
 use Rattle.wsm_intake.specs.declared.intake.Intake.{Intake}
 use Rattle.wsm_intake.specs.Intake.{said, text, turns_text}
 use Rattle.wsm_intake.specs.Turns.{Ends, Fits, Turned}

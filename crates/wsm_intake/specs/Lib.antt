@@ -1,7 +1,4 @@
-pub mod Numbered
-pub mod Clocks
 pub mod Intake
-pub mod IntakeRows
-pub mod Waits
+pub mod Tells
 pub mod Turns
 pub mod Run

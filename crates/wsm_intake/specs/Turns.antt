@@ -5,21 +5,29 @@ use Rattle.wsm_semantics.specs.Lines.{Line, End}
 use Rattle.wsm_semantics.specs.declared.ending.Totals.{Totals}
 use Rattle.wsm_program.specs.Program.{Program}
 use Rattle.wsm_machine.specs.Meaning.{query_of}
-use Rattle.wsm_lines.specs.Said.{said_of}
-use Rattle.wsm_lines.specs.Reader.{Follows}
+use Rattle.wsm_lines.specs.declared.reader.LineReader.{LineReader}
+use Rattle.wsm_lines.specs.Reader.{Follows, event_read, identifier_read}
 use Rattle.wsm_lines.specs.declared.source.Source.{Source}
-use Rattle.wsm_intake.specs.declared.clocks.Clocks.{Clocks}
+use Rattle.wsm_turns.specs.declared.clocks.Clocks.{Clocks}
 use Rattle.wsm_intake.specs.declared.intake.Intake.{Intake}
-use Rattle.wsm_intake.specs.Intake.{Kept, Setting, Turn, end_line, end_text, events_text, fault_count, kept, said, setting_of, turn_text}
-use Rattle.wsm_intake.specs.Waits.{Hear, Serves}
+use Rattle.wsm_turns.specs.Turns.{Kept, Setting, Spoken, Turn, kept, setting_of, watermark}
+use Rattle.wsm_intake.specs.Intake.{end_line, end_text, events_text, fault_count, said, said_at, turn_text}
+use Rattle.wsm_turns.specs.Waits.{Hear}
+use Rattle.wsm_turns.specs.Known.{Remembers}
+use Rattle.wsm_intake.specs.Tells.{Serves}
 
 abbrev pub setting_by : Option Clocks → Program → Setting
 setting_by clocks p = setting_of clocks (query_of p)
+
+-- what was read last
+abbrev pub spoken_read : LineReader → Spoken
+spoken_read r = record { event = event_read r; identifier = identifier_read r }
 
 -- what is kept, by a program
 pub record Holds (clocks : Option Clocks) (p : Program) (t : Intake) (k : Kept) : Type 0 where
   pub told : Serves p t.told k.fed
   pub waiting : Hear clocks (length p.header.schema.keys) t.waiting k.stamps k.told k.waits
+  pub remembers : Remembers (setting_by clocks p) (watermark (setting_by clocks p) k.fed) t.identifiers k.memory
 
 -- after lines
 pub record Fits (s : Source) (clocks : Option Clocks) (p : Program) (t : Intake) (before : List (List ℕ)) : Type 0 where
@@ -32,12 +40,12 @@ pub record Fits (s : Source) (clocks : Option Clocks) (p : Program) (t : Intake)
 pub record Goes (clocks : Option Clocks) (p : Program) (old new : Intake) (k : Kept) (turn : Turn) : Type 0 where
   pub holds : Holds clocks p new turn.kept
   pub text : new.told.lines.items ≡ old.told.lines.items ++ events_text (query_of p) k.fed turn.goes
-  pub others : new ≡ record old { told = new.told; waiting = new.waiting }
+  pub others : new ≡ record old { told = new.told; waiting = new.waiting; identifiers = new.identifiers }
 
 -- one line more, with the bytes of its turn
 pub record Turned (s : Source) (clocks : Option Clocks) (p : Program) (new : Intake) (before : List (List ℕ)) (line : List ℕ) : Type 0 where
   pub fits : Fits s clocks p new (line ∷ before)
-  pub text : new.told.lines.items ≡ turn_text (query_of p) clocks (said s p.header.schema before) (said_of s p.header.schema before line)
+  pub text : new.told.lines.items ≡ turn_text (query_of p) clocks (said s p.header.schema before) (said_at s p.header.schema before line)
 
 -- the last line, with these totals
 abbrev pub line_of : Totals → Line

@@ -1,30 +1,52 @@
 //! What the lines of a log so far come to.
 
-use crate::clocks::{Clocks, stamp_of};
+ghost use Rattle.std.specs.Prelude.{◌≡◌, ◌<◌, ◌^◌, [], ℤ, Option, IfOk, option_map};
+ghost use Rattle.wsm_program.specs.Program.{Program};
+ghost use Rattle.wsm_turns.specs.declared.clocks.Clocks.{Clocks as AnyClocks};
+ghost use Rattle.wsm_turns.specs.Known.{Passes, Remembers};
+ghost use Rattle.wsm_turns.specs.Turns.{Kept, watermark};
+ghost use Rattle.wsm_intake.specs.Tells.{Serves};
+ghost use Rattle.wsm_intake.specs.Turns.{setting_by};
+
 use crate::told::{Told, add_fault};
-use crate::waiting::{Waiting, open_clocks, take_record, tell_rest};
 use std::alloc::{AllocError, Global};
 use wsm_csv::{Device, DeviceFault, end_text, write_out};
 use wsm_engine::Totals;
 use wsm_lines::{LineFault, LineReader, LineRefusal, Source};
 use wsm_rules::Verified;
-use wsm_watermarks::Stamp;
+use wsm_turns::{
+    Clocks, Identifiers, Stamp, Taker, Waiting, open_clocks, stamp_of, take_record, take_rest,
+};
 
-/// An engine and what stands between it and a log: the reader of lines by a source, and its clocks with the records that wait.
+/// An engine and what stands between it and a log: the reader of lines by a source, its clocks with the records that wait, and the
+/// identifiers of records that came.
 /// It has the bytes that are written for the last line.
-#[derive(Drop)]
 pub struct Intake {
     told: Told,
     reader: LineReader,
     waiting: Option<Waiting>,
+    identifiers: Identifiers,
     // The lines so far.
     taken: u64,
     // Those that were no event.
     faults: u64,
 }
 
+impl Drop for Intake {
+    fn drop(self) {
+        let Intake {
+            told: _,
+            reader: _,
+            waiting: _,
+            identifiers: _,
+            taken: _,
+            faults: _,
+        } = self;
+    }
+}
+
 impl Intake {
-    ghost use Rattle.std.specs.Prelude.{◌≡◌, ◌++◌, ◌+◌, ◌<◌, ◌∷◌, [], true, false, List, ℕ, Option, Some, Ok, IfOk, OnErr, OnOk, length};
+    ghost use Rattle.std.specs.Prelude.{◌≡◌, ◌++◌, ◌+◌, ◌<◌, ◌^◌, ◌∷◌, [], true, false, List, ℕ, Option, Some, Ok, IfOk, OnErr, OnOk, length};
     ghost use Rattle.std.specs.Io.KnownBytes.{Appends};
     ghost use Rattle.wsm_record.specs.Event.{Event as AnyEvent};
     ghost use Rattle.wsm_admission.specs.Admission.{counter};
@@ -32,13 +54,13 @@ impl Intake {
     ghost use Rattle.wsm_program.specs.Program.{Program};
     ghost use Rattle.wsm_machine.specs.Meaning.{query_of};
     ghost use Rattle.wsm_lines.specs.declared.source.Source.{Source as AnySource};
-    ghost use Rattle.wsm_lines.specs.Reader.{event_read};
     ghost use Rattle.wsm_watermarks.specs.declared.stamp.Stamp.{Stamp as AnyStamp};
-    ghost use Rattle.wsm_intake.specs.declared.clocks.Clocks.{Clocks as AnyClocks};
-    ghost use Rattle.wsm_intake.specs.Clocks.{AreClocks};
-    ghost use Rattle.wsm_intake.specs.Intake.{Kept, Said, fault_count, fault_text, line_behind, turn_by, turn_of};
-    ghost use Rattle.wsm_intake.specs.Waits.{Serves};
-    ghost use Rattle.wsm_intake.specs.Turns.{Ends, Fits, Goes, Holds, Turned, line_of, setting_by};
+    ghost use Rattle.wsm_turns.specs.declared.clocks.Clocks.{Clocks as AnyClocks};
+    ghost use Rattle.wsm_turns.specs.Clocks.{AreClocks};
+    ghost use Rattle.wsm_turns.specs.Turns.{Kept, turn_by};
+    ghost use Rattle.wsm_intake.specs.Intake.{Said, fault_count, fault_text, line_behind, turn_at};
+    ghost use Rattle.wsm_intake.specs.Tells.{Serves};
+    ghost use Rattle.wsm_intake.specs.Turns.{Ends, Fits, Goes, Holds, Turned, line_of, setting_by, spoken_read};
 
     /// Before the first line, with these clocks, where there are any.
     pub fn open(
@@ -50,12 +72,14 @@ impl Intake {
         requires { AreClocks clocks }
         ensures { IfOk result (λ intake. Fits source clocks verified intake []) }
     {
+        let identifiers = identifiers_of(alloc, &verified);
         let told = Told::open(alloc, verified)?;
         let waiting = open_clocks(alloc, clocks, told.schema().key_count())?;
         Ok(Intake {
             told,
             reader: LineReader::new(alloc, source),
             waiting,
+            identifiers,
             taken: 0,
             faults: 0,
         })
@@ -85,19 +109,29 @@ impl Intake {
     // The turn of the event that was read.
     fn serve(&mut self) -> Result<(), AllocError>
         ensures { (clocks : Option AnyClocks) (p : Program) (k : Kept) → Holds clocks p self.old k → length k.stamps < self.old.taken →
-            OnOk result (Goes clocks p self.old self.new k (turn_of (setting_by clocks p) k self.old.taken (Ok (event_read self.old.reader)))) }
+            OnOk result (Goes clocks p self.old self.new k (turn_at (setting_by clocks p) k self.old.taken (Ok (spoken_read self.old.reader)))) }
     {
         match stamp_of(self.told.schema(), self.reader.event()) {
             Some(stamp) => self.serve_stamped(stamp),
-            None => self.told.feed(self.taken, self.reader.event()),
+            None => self.told.take(self.taken, self.reader.event()),
         }
     }
 
-    // The turn of the event that was read, with its stamp.
+    // The turn of the event that was read, with its stamp. A double is left out.
     fn serve_stamped(&mut self, stamp: Stamp) -> Result<(), AllocError>
+        requires { stamp.time < 2 ^ 63 }
         ensures { (clocks : Option AnyClocks) (p : Program) (k : Kept) → Holds clocks p self.old k → length k.stamps < self.old.taken → stamp.clock < length p.header.schema.keys →
-            OnOk result (Goes clocks p self.old self.new k (turn_by (setting_by clocks p) k self.old.taken (Some stamp) (event_read self.old.reader))) }
+            OnOk result (Goes clocks p self.old self.new k (turn_by (setting_by clocks p) k self.old.taken (Some stamp) (spoken_read self.old.reader))) }
     {
+        let is_new = passes(
+            self.reader.identifier(),
+            stamp.time,
+            &self.told,
+            &mut self.identifiers,
+        )?;
+        if !is_new {
+            return Ok(());
+        }
         take_record(
             &mut self.waiting,
             stamp,
@@ -123,7 +157,7 @@ impl Intake {
         ensures { (s : AnySource) (clocks : Option AnyClocks) (p : Program) (lines : List (List ℕ)) → Fits s clocks p self.old lines → IfOk result (Ends s clocks p self.new lines) }
     {
         self.told.lines.clear();
-        tell_rest(&self.waiting, &mut self.told)?;
+        take_rest(&self.waiting, &mut self.told)?;
         let totals = self.totals();
         end_text(totals, &mut self.told.lines)?;
         Ok(totals)
@@ -153,5 +187,30 @@ impl Intake {
             refused: self.faults.saturating_add(totals.refused),
             panes: totals.panes,
         }
+    }
+}
+
+// No identifier of a program's records has come.
+fn identifiers_of(alloc: Global, verified: &Verified) -> Identifiers
+    ensures { (clocks : Option AnyClocks) (mark : ℤ) → Remembers (setting_by clocks verified.now) mark result [] }
+{
+    let header = verified.program().header();
+    Identifiers::new(alloc, header.clock, header.shape)
+}
+
+// Whether a record with an identifier, if it has one, passes. Takes note of it then.
+fn passes(
+    identifier: Option<&[u8]>,
+    time: u64,
+    told: &Told,
+    identifiers: &mut Identifiers,
+) -> Result<bool, AllocError>
+    requires { time < 2 ^ 63 }
+    ensures { (clocks : Option AnyClocks) (p : Program) (k : Kept) → Serves p told.now k.fed → let w = setting_by clocks p in Remembers w (watermark w k.fed) identifiers.old k.memory →
+        IfOk result (Passes w (watermark w k.fed) identifiers.new (option_map (λ t. t.now) identifier.entry) time k.memory) }
+{
+    match identifier {
+        Some(identifier) => identifiers.pass(identifier, time, told.mark()),
+        None => Ok(true),
     }
 }

@@ -6,12 +6,11 @@ ghost use Rattle.wsm_lines.specs.declared.source.Source.{Source as AnySource};
 ghost use Rattle.wsm_log.specs.LinesOf.{AreAll};
 ghost use Rattle.wsm_log.specs.Lines.{Follows};
 ghost use Rattle.wsm_machine.specs.Meaning.{query_of};
-ghost use Rattle.wsm_intake.specs.declared.clocks.Clocks.{Clocks as AnyClocks};
-ghost use Rattle.wsm_intake.specs.Clocks.{AreClocks};
+ghost use Rattle.wsm_turns.specs.declared.clocks.Clocks.{Clocks as AnyClocks};
+ghost use Rattle.wsm_turns.specs.Clocks.{AreClocks};
 ghost use Rattle.wsm_intake.specs.Run.{Completes, EndsEarly, LogBroken, LogWritten, Stands};
 ghost use Rattle.wsm_intake.specs.Turns.{Fits};
 
-use crate::clocks::Clocks;
 use crate::intake::Intake;
 use std::alloc::Global;
 use std::io::Read;
@@ -21,6 +20,7 @@ use wsm_lines::Source;
 use wsm_log::Lines;
 use wsm_log_rows::LogEnd;
 use wsm_rules::Verified;
+use wsm_turns::Clocks;
 
 /// Runs a program over the lines of a log, by a source that says how a line is read, and with the watermarks of clocks,
 /// where there are any. Each line is read and its turn taken, and the device is given the bytes of the turn before the next line is

@@ -14,22 +14,33 @@ use wsm_engine::Engine;
 use wsm_lines::LineFault;
 use wsm_record::{Event, Schema};
 use wsm_rules::Verified;
+use wsm_turns::Taker;
 
 /// An engine, and the bytes of the lines that are written.
-#[derive(Drop)]
 pub struct Told {
     pub engine: Engine,
     pub lines: Vec<u8>,
 }
 
+impl Drop for Told {
+    fn drop(self) {
+        let Told {
+            engine: _,
+            lines: _,
+        } = self;
+    }
+}
+
 impl Told {
-    ghost use Rattle.std.specs.Prelude.{◌≡◌, ◌++◌, [], ◌∷◌, List, IfOk, OnOk};
-    ghost use Rattle.wsm_record.specs.Event.{Event as AnyEvent, event_of};
+    ghost use Rattle.std.specs.Prelude.{◌≡◌, ◌++◌, [], List, IfOk, OnOk};
+    ghost use Rattle.wsm_record.specs.Event.{Event as AnyEvent};
     ghost use Rattle.wsm_record.specs.Schema.{Declared};
     ghost use Rattle.wsm_program.specs.Program.{Program};
+    ghost use Rattle.wsm_machine.specs.Meaning.{query_of};
+    ghost use Rattle.wsm_semantics.specs.Query.{mark};
     ghost use Rattle.wsm_semantics.specs.Lines.{refusal_lines};
     ghost use Rattle.wsm_semantics.specs.Text.{lines_text};
-    ghost use Rattle.wsm_intake.specs.Waits.{Serves, Tells};
+    ghost use Rattle.wsm_intake.specs.Tells.{Serves};
 
     /// Before the first event.
     pub fn open(alloc: Global, verified: Verified) -> Result<Told, AllocError>
@@ -44,21 +55,18 @@ impl Told {
         })
     }
 
+    /// The watermark.
+    pub fn mark(&self) -> i64
+        ensures { (p : Program) (past : List AnyEvent) → Serves p self.now past → result ≡ mark (query_of p) past }
+    {
+        self.engine.mark()
+    }
+
     /// What the program declares of its records.
     pub fn schema(&self) -> &Schema
         ensures { result.now ≡ self.now.engine.program.header.schema }
     {
         self.engine.schema()
-    }
-
-    /// Takes the turn of an event of the line of a number, and adds its bytes.
-    pub fn feed(&mut self, number: u64, event: &Event) -> Result<(), AllocError>
-        ensures { (p : Program) (past : List AnyEvent) → Serves p self.old past → OnOk result (Tells p self.old self.new past (record { number = number; event = event_of event.now } ∷ [])) }
-    {
-        let reply = self.engine.feed(event);
-        self.tell(number, reply.refusal)?;
-        rows_text(self.engine.schema(), self.engine.rows(), &mut self.lines)?;
-        Ok(())
     }
 
     // Adds the line of a refusal, if there is one.
@@ -70,6 +78,24 @@ impl Told {
             Some(why) => add_refusal(number, why, &mut self.lines),
             None => Ok(()),
         }
+    }
+}
+
+impl Taker for Told {
+    ghost use Rattle.wsm_intake.specs.Tells.{Took, Took-join, Took-none};
+
+    ghost took = { Took };
+
+    ghost none = { Took-none };
+
+    ghost join = { Took-join };
+
+    // Takes the turn of an event, and adds its bytes.
+    fn take(&mut self, number: u64, event: &Event) -> Result<(), AllocError> {
+        let reply = self.engine.feed(event);
+        self.tell(number, reply.refusal)?;
+        rows_text(self.engine.schema(), self.engine.rows(), &mut self.lines)?;
+        Ok(())
     }
 }
 

@@ -17,9 +17,10 @@ use Rattle.wsm_semantics.specs.Text.{line_text, lines_text}
 use Rattle.wsm_csv.specs.Device.{TakesPart}
 use Rattle.wsm_lines.specs.declared.source.Source.{Source}
 use Rattle.wsm_intake.specs.Intake as intake
-use Rattle.wsm_intake.specs.declared.clocks.Clocks.{Clocks}
-use Rattle.wsm_intake.specs.Numbered.{Numbered}
-use Rattle.wsm_intake.specs.Intake.{Said, at_end, end_text, event_text, events_text, fault_count, fed_at_end, kept, setting_of, text, turn_of, turn_text, turns_text}
+use Rattle.wsm_turns.specs.declared.clocks.Clocks.{Clocks}
+use Rattle.wsm_turns.specs.Numbered.{Numbered}
+use Rattle.wsm_turns.specs.Turns.{at_end, kept, setting_of}
+use Rattle.wsm_intake.specs.Intake.{Said, end_text, event_text, events_text, fault_count, fed_at_end, text, turn_at, turn_text, turns_text}
 use Rattle.wsm_log_rows.specs.declared.end.LogEnd.{LogEnd}
 use Rattle.wsm_log_rows.specs.declared.end.LogEnd.TheVariants as log
 use Rattle.wsm_intake.specs.Run.{BreaksOff, Completes, EndsEarly, LogBroken, LogWritten, read_by}
@@ -27,8 +28,8 @@ use Rattle.wsm_query.specs.Tree as tree
 use Rattle.wsm_machine.specs.Meaning.{query_of}
 use Rattle.wsm_compiler.specs.Program.{program_of}
 use Rattle.wsm_compiler.specs.Means.{meant}
-use Rattle.wsm.specs.Begun.{IsAcceptedQuery}
-use Rattle.wsm.proofs.SameText as same
+use Rattle.wsm_inputs.specs.Begun.{IsAcceptedQuery}
+use Rattle.wsm_inputs.proofs.SameLines as same
 
 abbrev row_in : Line → OutRow → OutRow
 row_in (Out row) other = row
@@ -75,7 +76,7 @@ module _ (q : Query) (sel : ℕ → List Value → Bool) (row : ℕ → List Dat
   turn_same : (before : List Row) (r : Row) → turn_lines q before r ≡ turn_lines m before r
   turn_same before r =
       append_cancel_left (lines_so_far q before) (turn_lines q before r) (turn_lines m before r)
-      (same.so_far_same q m refl lines (r ∷ before) ∙ ap (λ (ls : List Line). ls ++ turn_lines m before r) (sym (same.so_far_same q m refl lines before)))
+      (same.so_far_same q m lines (r ∷ before) ∙ ap (λ (ls : List Line). ls ++ turn_lines m before r) (sym (same.so_far_same q m lines before)))
 
   rows_same : (past : List Event) (e : Event) → turn_rows q past e ≡ turn_rows m past e
   rows_same past e =
@@ -88,7 +89,7 @@ module _ (q : Query) (sel : ℕ → List Value → Bool) (row : ℕ → List Dat
   panes_same : (past : List Event) → counter (length (firings_so_far q past)) ≡ counter (length (firings_so_far m past))
   panes_same past =
       let before = rows_of_events past in
-      subst (λ es. counter (length (firings_so_far q es)) ≡ counter (length (firings_so_far m es))) (events_again past) (ap panes_in (same.end_same_rows q m refl lines before))
+      subst (λ es. counter (length (firings_so_far q es)) ≡ counter (length (firings_so_far m es))) (events_again past) (ap panes_in (same.end_same_rows q m lines before))
 
   event_same : (n : ℕ) (past : List Event) (e : Event) → event_text q n past e ≡ event_text m n past e
   event_same n past e = ap (λ (rs : List OutRow). lines_text q.declared (refusal_lines n (verdict_on q past e) ++ map Out rs)) (rows_same past e)
@@ -101,7 +102,7 @@ module _ (q : Query) (sel : ℕ → List Value → Bool) (row : ℕ → List Dat
   turn_text_same clocks before (Err why) = refl
   turn_text_same clocks before (Ok x) =
       let k = kept (setting_of clocks q) before in
-      events_same k.fed (turn_of (setting_of clocks q) k (length before + 1) (Ok x)).goes
+      events_same k.fed (turn_at (setting_of clocks q) k (length before + 1) (Ok x)).goes
 
   turns_same : (clocks : Option Clocks) (all : List Said) → turns_text q clocks all ≡ turns_text m clocks all
   turns_same clocks [] = refl

@@ -4,10 +4,10 @@ use Rattle.wsm_semantics.specs.Query.{Query}
 use Rattle.wsm_lines.specs.declared.source.Source.{Source}
 use Rattle.wsm_log_rows.specs.declared.end.LogEnd.{LogEnd}
 use Rattle.wsm_log_rows.specs.declared.end.LogEnd.TheVariants as log
-use Rattle.wsm_intake.specs.declared.clocks.Clocks.{Clocks}
+use Rattle.wsm_turns.specs.declared.clocks.Clocks.{Clocks}
 use Rattle.wsm_intake.specs.Run.{LogBroken}
-use Rattle.wsm.specs.declared.end.End.{End}
-use Rattle.wsm.specs.declared.end.End.TheVariants.{Memory, ReadFailed, WriteFailed}
+use Rattle.wsm_inputs.specs.declared.end.End.{End}
+use Rattle.wsm_inputs.specs.declared.end.End.TheVariants.{Memory, ReadFailed, WriteFailed}
 
 abbrev pub end_of_log : LogEnd → End
 end_of_log log.Memory = Memory

@@ -1,19 +1,22 @@
 //! Runs over logs.
 
 ghost use Rattle.std.specs.Prelude.{◌≡◌, false};
-ghost use Rattle.wsm_intake.specs.Clocks.{AreClocks};
+ghost use Rattle.wsm_turns.specs.Clocks.{AreClocks};
 ghost use Rattle.wsm_intake.specs.Run.{LogWritten};
-ghost use Rattle.wsm.specs.declared.input.Input.{Input as AnyInput};
-ghost use Rattle.wsm.specs.Inputs.{EndsAs, IsAccepted};
+ghost use Rattle.wsm_inputs.specs.declared.input.Input.{Input as AnyInput};
+ghost use Rattle.wsm_inputs.specs.Inputs.{EndsAs, IsAccepted};
 ghost use Rattle.wsm_log_run.specs.Logs.{LogStops, end_of_log};
 
 use std::alloc::Global;
 use std::io::Read;
-use wsm::{Device, End, Totals};
-use wsm_intake::{Clocks, run_log as run_intake};
+use wsm_csv::Device;
+use wsm_engine::Totals;
+use wsm_inputs::End;
+use wsm_intake::run_log as run_intake;
 use wsm_lines::Source;
 use wsm_log_rows::LogEnd;
 use wsm_rules::Verified;
+use wsm_turns::Clocks;
 
 /// Runs an accepted program over the lines of a log, by a source that says how a line is read, and with the watermarks that
 /// the log's clocks make, where it has any. Each line is read and its turn taken, and the device is given what is written for it before the

@@ -1,7 +1,7 @@
 use Rattle.std.proofs.Common.{[], ℕ, List, Option}
 use Rattle.std.proofs.lemmas.Result.{err_from_is_err_and}
 use Rattle.wsm_csv.proofs.Written.{Appends-start}
-use Rattle.wsm_intake.specs.declared.clocks.Clocks.{Clocks}
+use Rattle.wsm_turns.specs.declared.clocks.Clocks.{Clocks}
 use Rattle.wsm_semantics.specs.Query.{Query}
 use Rattle.wsm_machine.specs.Meaning.{query_of}
 use Rattle.wsm_lines.specs.declared.source.Source.{Source}

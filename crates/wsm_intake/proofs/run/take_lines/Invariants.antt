@@ -1,6 +1,6 @@
 use Rattle.std.proofs.Common.{◌≡◌, ℕ, List, [], Option, false}
 use Rattle.wsm_program.specs.Program.{Program}
-use Rattle.wsm_intake.specs.declared.clocks.Clocks.{Clocks}
+use Rattle.wsm_turns.specs.declared.clocks.Clocks.{Clocks}
 use Rattle.wsm_lines.specs.declared.source.Source.{Source}
 use Rattle.wsm_log.specs.Lines.{Follows, turns_left}
 use Rattle.wsm_intake.specs.Run.{Stands}

@@ -1,19 +1,19 @@
 use Rattle.std.proofs.Common.{◌≡◌, ◌∙◌, ℕ, Bool, List, Option, Result, Ok, Err, refl, ap, true, false}
 use Rattle.std.specs.Prelude.{IfErr, IfOk, OnOk}
-use Rattle.wsm_intake.specs.declared.clocks.Clocks.{Clocks}
+use Rattle.wsm_turns.specs.declared.clocks.Clocks.{Clocks}
 use Rattle.wsm_semantics.specs.Query.{Query}
 use Rattle.wsm_semantics.specs.declared.ending.Totals.{Totals}
 use Rattle.wsm_lines.specs.declared.source.Source.{Source}
 use Rattle.wsm_log_rows.specs.declared.end.LogEnd.{LogEnd}
 use Rattle.wsm_log_rows.specs.declared.end.LogEnd.TheVariants as log
 use Rattle.wsm_intake.specs.Run.{LogBroken, LogWritten}
-use Rattle.wsm.specs.declared.end.End.{End}
-use Rattle.wsm.specs.declared.end.End.TheVariants.{WriteFailed}
-use Rattle.wsm.specs.Ends.{hides_memory}
-use Rattle.wsm.specs.Inputs.{EndsAs, IsAccepted}
-use Rattle.wsm.specs.declared.input.Input.{Input}
+use Rattle.wsm_inputs.specs.declared.end.End.{End}
+use Rattle.wsm_inputs.specs.declared.end.End.TheVariants.{WriteFailed}
+use Rattle.wsm_inputs.specs.Ends.{hides_memory}
+use Rattle.wsm_inputs.specs.Inputs.{EndsAs, IsAccepted}
+use Rattle.wsm_inputs.specs.declared.input.Input.{Input}
 use Rattle.wsm_log_run.specs.Logs.{LogStops, end_of_log}
-use Rattle.wsm.proofs.RunsBeforeRows.{begun}
+use Rattle.wsm_inputs.proofs.RunsBeforeRows.{begun}
 use Rattle.wsm_log_run.proofs.SameLog.{log_broken, log_written}
 use Rattle.wsm_program.specs.Program.{Program}
 use Rattle.wsm_machine.specs.Meaning.{query_of}

@@ -2,7 +2,8 @@ use Rattle.std.proofs.Common.{◌≡◌, ◌∙◌, ◌++◌, List, ℕ, length,
 use Rattle.wsm_semantics.specs.Lines.{Line}
 use Rattle.wsm_semantics.specs.Text.{line_text}
 use Rattle.wsm_machine.specs.Meaning.{query_of}
-use Rattle.wsm_intake.specs.Intake.{at_end, end_line, events_text, fed_with, kept, said}
+use Rattle.wsm_turns.specs.Turns.{at_end, fed_with, kept}
+use Rattle.wsm_intake.specs.Intake.{end_line, events_text, said}
 use Rattle.wsm_intake.specs.Turns.{line_of, setting_by}
 use Rattle.wsm_intake.proofs.intake.Intake.end.Goals as goal
 
@@ -12,7 +13,7 @@ returns c = λ s clocks p lines fits.
     let all = said s d lines in
     let k = kept (setting_by clocks p) all in
     let rest = events_text (query_of p) k.fed (at_end k) in
-    let told = c.in_ok-tell_rest.ensures clocks (length d.keys) p k fits.holds.waiting (record { program = fits.holds.told.program; fits = fits.holds.told.fits }) in
+    let told = c.in_ok-take_rest.ensures clocks (length d.keys) k fits.holds.waiting p k.fed (record { program = fits.holds.told.program; fits = fits.holds.told.fits }) in
     let numbers : line_of c.totals-totals.result ≡ end_line (query_of p) clocks all =
     c.totals-totals.ensures p (fed_with k.fed (at_end k)) all (record { program = told.serves.program; fits = told.serves.fits }) fits.taken fits.faults in
     record {

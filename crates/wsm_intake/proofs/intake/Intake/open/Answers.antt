@@ -1,8 +1,8 @@
 use Rattle.std.proofs.Common.{◌≡◌, ◌∙◌, ℕ, [], length, refl, ap, subst}
 use Rattle.wsm_record.specs.Schema.{Declared}
 use Rattle.wsm_program.specs.Program.{Program}
-use Rattle.wsm_intake.specs.Intake.{start_of}
-use Rattle.wsm_intake.specs.Waits.{Hear}
+use Rattle.wsm_turns.specs.Turns.{start_of}
+use Rattle.wsm_turns.specs.Waits.{Hear}
 use Rattle.wsm_intake.proofs.intake.Intake.open.Goals as goal
 
 pub returns : goal.returns
@@ -13,6 +13,7 @@ returns c =
       holds = record {
         told = record { program = c.in_ok-told.ensures.program; fits = c.in_ok-told.ensures.fits };
         waiting = subst (λ (n : ℕ). Hear c.args.clocks n c.in_ok-waiting.waiting [] (start_of c.args.clocks) []) count c.in_ok-waiting.ensures;
+        remembers = c.identifiers_of-identifiers.ensures c.args.clocks _;
       };
       reader = record { source = c.new.ensures.source; heading = c.new.ensures.heading };
       taken = refl;

@@ -1,0 +1,6 @@
+pub mod Numbered
+pub mod Clocks
+pub mod Turns
+pub mod TurnRows
+pub mod Waits
+pub mod Known

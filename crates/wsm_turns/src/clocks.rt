@@ -1,0 +1,102 @@
+//! The clocks of a log.
+
+ghost use Rattle.std.specs.Prelude.{◌≡◌, ◌+◌, ◌≤◌, IfSome, pos};
+ghost use Rattle.wsm_record.specs.Event.{event_of};
+ghost use Rattle.wsm_turns.specs.Clocks.{IsClocks, IsRule};
+ghost use Rattle.wsm_turns.specs.Turns.{mark_at, stamp_of};
+
+use wsm_record::limits::LATEST_TIME;
+use wsm_record::{Event, Schema};
+use wsm_watermarks::{MOST_AGREEING, MOST_HELD, Rule, Stamp};
+use wsm_windows::is_time;
+
+/// The clocks of a log: how a watermark follows them, and which records wait for it.
+#[derive(Clone, Copy, Debug, PartialEq, Eq)]
+pub struct Clocks {
+    /// How a watermark follows them.
+    pub rule: Rule,
+    /// How far ahead of the watermark a record may be that doesn't wait, in units of event time.
+    pub ahead: u64,
+    /// How many records may wait.
+    pub room: usize,
+}
+
+/// The rule by which a watermark goes that begins at START: so many clocks have to agree on a time, it stays so far behind
+/// it and goes in such steps, and a clock is heard while its last record is among so many last ones. There is none where no
+/// clock or more than [`MOST_AGREEING`] have to agree, or a step is 0. Times and spans are in units of event time.
+pub fn rule_of(agree: u64, bound: u64, step: u64, forget: u64, start: i64) -> Option<Rule>
+    ensures { IfSome result IsRule }
+{
+    if agree == 0 || (MOST_AGREEING as u64) < agree || step == 0 {
+        return None;
+    }
+    Some(Rule {
+        agree: agree as usize,
+        forget,
+        bound,
+        step,
+        start: start.unsigned_abs(),
+    })
+}
+
+/// The clocks by such a rule, where a record waits that is further ahead of the watermark than the query's SKEW, and so many
+/// may wait at most. There are none either where more than [`MOST_HELD`] may, or where SKEW is less than the bound and a step,
+/// less 1: a record that waited could then be refused for having waited.
+pub fn clocks_of(
+    agree: u64,
+    bound: u64,
+    step: u64,
+    forget: u64,
+    room: u64,
+    start: i64,
+    skew: i64,
+) -> Option<Clocks>
+    ensures clocks { IfSome result IsClocks }
+    ensures ahead { IfSome result (λ c. pos c.ahead ≡ skew) }
+    ensures in_time { IfSome result (λ c. c.rule.bound + c.rule.step ≤ c.ahead + 1) }
+{
+    let rule = rule_of(agree, bound, step, forget, start)?;
+    let most_ahead = rule.bound.checked_add(rule.step - 1)?;
+    if skew < 0 || skew.unsigned_abs() < most_ahead || room > MOST_HELD as u64 {
+        return None;
+    }
+    Some(Clocks {
+        rule,
+        ahead: skew.unsigned_abs(),
+        room: room as usize,
+    })
+}
+
+/// What an event says of time: a record of a declared key whose values fit and whose time is one, on the clock of its key.
+pub fn stamp_of(schema: &Schema, event: &Event) -> Option<Stamp>
+    ensures { result ≡ stamp_of schema.now (event_of event.now) }
+{
+    match event {
+        Event::Record {
+            key: Some(key),
+            time,
+            values,
+        } => {
+            if (*key as usize) < schema.key_count() && (schema.fits(values) && is_time(*time)) {
+                Some(Stamp {
+                    clock: *key as usize,
+                    time: time.unsigned_abs(),
+                })
+            } else {
+                None
+            }
+        }
+        Event::Record { key: None, .. } => None,
+        Event::Watermark { .. } => None,
+    }
+}
+
+/// The watermark at a time, and no later than times go.
+pub fn mark_at(time: u64) -> Event
+    ensures { event_of result ≡ mark_at time }
+{
+    Event::Watermark {
+        source: Some(0),
+        time: time.min(LATEST_TIME.unsigned_abs()) as i64,
+    }
+}

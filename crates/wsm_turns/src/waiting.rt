@@ -1,0 +1,223 @@
+//! Records that wait for the clocks of a log.
+
+ghost use Rattle.std.specs.Prelude.{◌≡◌, ◌+◌, ◌<◌, ◌≤◌, [], ◌∷◌, ℕ, List, Option, Some, IfOk, OnOk, length, map};
+ghost use Rattle.wsm_record.specs.Event.{event_of};
+ghost use Rattle.wsm_watermarks.specs.Held.{handed, is_near, last_mark, left, let_go, mark_item, waiting};
+ghost use Rattle.wsm_turns.specs.declared.clocks.Clocks.{Clocks as AnyClocks};
+ghost use Rattle.wsm_turns.specs.Numbered.{timed};
+ghost use Rattle.wsm_turns.specs.Clocks.{AreClocks, IsClocks};
+ghost use Rattle.wsm_turns.specs.Turns.{Kept, numbered, start_of};
+ghost use Rattle.wsm_turns.specs.Waits.{Hear, Hears, Takes};
+
+use crate::clocks::{Clocks, mark_at};
+use crate::line_event::LineEvent;
+use crate::taker::Taker;
+use std::alloc::{AllocError, Global};
+use wsm_record::Event;
+use wsm_record::limits::MAX_NAMES;
+use wsm_watermarks::{Held, Stamp, Timed, Watermarks};
+
+/// The clocks of a log, and the records that wait for them.
+#[derive(Drop)]
+pub struct Waiting {
+    marks: Watermarks,
+    held: Held<LineEvent>,
+    ahead: u64,
+    // The last watermark that was told.
+    told: u64,
+}
+
+impl Waiting {
+    ghost use Rattle.std.specs.Prelude.{◌≡◌, ◌+◌, ◌<◌, ◌≤◌, [], ◌∷◌, ℕ, List, Some, IfOk, OnOk, length, map};
+    ghost use Rattle.wsm_record.specs.Event.{event_of};
+    ghost use Rattle.wsm_turns.specs.declared.clocks.Clocks.{Clocks as AnyClocks};
+    ghost use Rattle.wsm_turns.specs.Clocks.{IsClocks};
+    ghost use Rattle.wsm_turns.specs.Turns.{Kept};
+    ghost use Rattle.wsm_turns.specs.Waits.{Hear, Hears, Takes};
+
+    // So many clocks, before the first stamp.
+    fn open(alloc: Global, clocks: Clocks, count: usize) -> Result<Waiting, AllocError>
+        requires clocks { IsClocks clocks }
+        requires count { count ≤ MAX_NAMES }
+        ensures { IfOk result (λ w. Hears clocks count w [] clocks.rule.start []) }
+    {
+        Ok(Waiting {
+            marks: Watermarks::open(alloc, count, clocks.rule)?,
+            held: Held::open(alloc, clocks.room)?,
+            ahead: clocks.ahead,
+            told: clocks.rule.start,
+        })
+    }
+
+    // Takes note of the stamp of the record of the line of a number, and hands on what goes then: what waited and may pass, the
+    // watermark where it has risen, and the record, or it waits.
+    fn take<T: Taker>(
+        &mut self,
+        stamp: Stamp,
+        number: u64,
+        event: &Event,
+        taker: &mut T,
+    ) -> Result<(), AllocError>
+        ensures { (c : AnyClocks) (count : ℕ) (k : Kept) → Hears c count self.old k.stamps k.told k.waits → stamp.clock < count → length k.stamps < number →
+            OnOk result (Takes (Some c) count k (Some self.new) (T.took taker.old taker.new) stamp number (event_of event.now)) }
+    {
+        if self.marks.clocks() <= stamp.clock || number <= self.marks.heard() {
+            return Ok(());
+        }
+        self.marks.tell(stamp);
+        let last = let_go(
+            &mut self.held,
+            &self.marks,
+            self.ahead,
+            self.told,
+            number,
+            taker,
+        )?;
+        let top = self.marks.mark();
+        hand_mark(last, top, number, taker)?;
+        self.told = last.max(top);
+        hand_on(
+            &mut self.held,
+            top,
+            self.ahead,
+            stamp.time,
+            number,
+            event,
+            taker,
+        )
+    }
+
+    // Hands on what waits, the earliest first.
+    fn take_rest<T: Taker>(&self, taker: &mut T) -> Result<(), AllocError>
+        ensures { OnOk result (T.took taker.old taker.new (map (λ r. r.row) self.now.held.rows)) }
+    {
+        hand_rows(self.held.rows(), taker)
+    }
+}
+
+/// The clocks, if there are any, before the first stamp. There are so many keys.
+///
+/// # Errors
+///
+/// Memory was refused. No other call takes any for the clocks, but for a copy of each record that waits.
+pub fn open_clocks(
+    alloc: Global,
+    clocks: Option<Clocks>,
+    count: usize,
+) -> Result<Option<Waiting>, AllocError>
+    requires clocks { AreClocks clocks }
+    requires count { count ≤ MAX_NAMES }
+    ensures { IfOk result (λ w. Hear clocks count w [] (start_of clocks) []) }
+{
+    match clocks {
+        Some(clocks) => Ok(Some(Waiting::open(alloc, clocks, count)?)),
+        None => Ok(None),
+    }
+}
+
+/// Takes note of the stamp of the record of the line of a number, where there are clocks, and hands on what goes then. Without
+/// clocks that is the record.
+///
+/// # Errors
+///
+/// Memory was refused. Then some of it was handed on, and no further record is to come.
+pub fn take_record<T: Taker>(
+    waiting: &mut Option<Waiting>,
+    stamp: Stamp,
+    number: u64,
+    event: &Event,
+    taker: &mut T,
+) -> Result<(), AllocError>
+    ensures { (clocks : Option AnyClocks) (count : ℕ) (k : Kept) → Hear clocks count waiting.old k.stamps k.told k.waits → stamp.clock < count → length k.stamps < number →
+        OnOk result (Takes clocks count k waiting.new (T.took taker.old taker.new) stamp number (event_of event.now)) }
+{
+    match waiting {
+        Some(waiting) => waiting.take(stamp, number, event, taker),
+        None => taker.take(number, event),
+    }
+}
+
+/// Hands on what waits at the end, the earliest first.
+///
+/// # Errors
+///
+/// Memory was refused.
+pub fn take_rest<T: Taker>(waiting: &Option<Waiting>, taker: &mut T) -> Result<(), AllocError>
+    ensures { (clocks : Option AnyClocks) (count : ℕ) (k : Kept) → Hear clocks count waiting.now k.stamps k.told k.waits →
+        OnOk result (T.took taker.old taker.new (map (λ r. r.row) k.waits)) }
+{
+    match waiting {
+        Some(waiting) => waiting.take_rest(taker),
+        None => Ok(()),
+    }
+}
+
+// Hands on records, in their order.
+fn hand_rows<T: Taker>(rows: &[Timed<LineEvent>], taker: &mut T) -> Result<(), AllocError>
+    ensures { OnOk result (T.took taker.old taker.new (map (λ r. r.row) rows.now)) }
+{
+    for row in rows {
+        row.row.hand(taker)?;
+    }
+    Ok(())
+}
+
+// Lets go what may pass, each record behind the watermark that its time alone would raise, where `last` is the last that was
+// told. It answers the last that is told then.
+fn let_go<T: Taker>(
+    held: &mut Held<LineEvent>,
+    marks: &Watermarks,
+    ahead: u64,
+    last: u64,
+    number: u64,
+    taker: &mut T,
+) -> Result<u64, AllocError>
+    ensures room { held.new.room ≡ held.old.room }
+    ensures mark { IfOk result (λ mark. mark ≡ last_mark last (let_go marks.now.rule ahead marks.now.mark last held.old.rows)) }
+    ensures rows { IfOk result (λ _. held.new.rows ≡ left (marks.now.mark + ahead) held.old.rows) }
+    ensures took { OnOk result (T.took taker.old taker.new (map (numbered number) (let_go marks.now.rule ahead marks.now.mark last held.old.rows))) }
+{
+    let mut mark = last;
+    while let Some(row) = held.next(marks.mark(), ahead) {
+        let next = marks.mark_for(mark, row.time);
+        hand_mark(mark, next, number, taker)?;
+        mark = next;
+        row.row.hand(taker)?;
+    }
+    Ok(mark)
+}
+
+// Hands on a watermark, where it is greater than the last.
+fn hand_mark<T: Taker>(last: u64, mark: u64, number: u64, taker: &mut T) -> Result<(), AllocError>
+    ensures { OnOk result (T.took taker.old taker.new (map (numbered number) (mark_item last mark))) }
+{
+    if last < mark {
+        taker.take(number, &mark_at(mark))
+    } else {
+        Ok(())
+    }
+}
+
+// Hands on a record, or has it wait: then the last of those that wait goes, where there is no room for it.
+fn hand_on<T: Taker>(
+    held: &mut Held<LineEvent>,
+    top: u64,
+    ahead: u64,
+    time: u64,
+    number: u64,
+    event: &Event,
+    taker: &mut T,
+) -> Result<(), AllocError>
+    ensures room { held.new.room ≡ held.old.room }
+    ensures rows { let row = timed time number (event_of event.now) in OnOk result (held.new.rows ≡ waiting (is_near (top + ahead) row) held.old.room row held.old.rows) }
+    ensures took { let row = timed time number (event_of event.now) in OnOk result (T.took taker.old taker.new (map (numbered number) (handed (is_near (top + ahead) row) held.old.room row held.old.rows))) }
+{
+    if time.saturating_sub(top) <= ahead {
+        return taker.take(number, event);
+    }
+    let row = LineEvent::copied(number, event)?;
+    match held.put(Timed { time, row }) {
+        Some(last) => last.row.hand(taker),
+        None => Ok(()),
+    }
+}
