@@ -2,3 +2,6 @@ pub mod NumberTexts
 pub mod PlainTexts
 pub mod ReadRows
 pub mod SameTurns
+pub mod Sayable
+pub mod BoundSources
+pub mod Delivering

@@ -51,14 +51,14 @@ keys_listed : (d : Declared) → is_schema d ≡ true → are_names_after [] d.k
 unfolding is_schema
 keys_listed d h = (and_parts _ _ (and_parts (is_name_list d.keys) _ h).0).1
 
-fields_listed : (d : Declared) → is_schema d ≡ true → are_fields_after [] d.fields ≡ true
+pub fields_listed : (d : Declared) → is_schema d ≡ true → are_fields_after [] d.fields ≡ true
 unfolding is_schema
 fields_listed d h = (and_parts (are_fields_after [] d.fields) (are_sources d.sources) (and_parts _ _ (and_parts (is_name_list d.keys) _ h).1).1).0
 
-type_listed : (before : List (List ℕ)) (f : DeclaredField) (fs : List DeclaredField) → are_fields_after before (f ∷ fs) ≡ true → is_field_type f.type ≡ true
+pub type_listed : (before : List (List ℕ)) (f : DeclaredField) (fs : List DeclaredField) → are_fields_after before (f ∷ fs) ≡ true → is_field_type f.type ≡ true
 type_listed before f fs h = (and_parts _ (is_field_type f.type) (and_parts _ _ (and_parts _ (are_fields_after (before ++ f.name ∷ []) fs) h).0).1).1
 
-rest_listed : (before : List (List ℕ)) (f : DeclaredField) (fs : List DeclaredField) → are_fields_after before (f ∷ fs) ≡ true → are_fields_after (before ++ f.name ∷ []) fs ≡ true
+pub rest_listed : (before : List (List ℕ)) (f : DeclaredField) (fs : List DeclaredField) → are_fields_after before (f ∷ fs) ≡ true → are_fields_after (before ++ f.name ∷ []) fs ≡ true
 rest_listed before f fs h = (and_parts _ (are_fields_after (before ++ f.name ∷ []) fs) h).1
 
 enum_listed : (names : List (List ℕ)) → is_field_type (Enum names) ≡ true → are_names_after [] names ≡ true

@@ -1,2 +1,3 @@
 pub mod SaidRows
 pub mod SameRuns
+pub mod Delivered

@@ -1,23 +1,46 @@
-//! Rows of a log's lines are read back.
+//! What runs over logs and over rows come to.
 
-ghost use Rattle.std.specs.Prelude.{◌≡◌, ◌+◌, ◌<◌, ◌^◌, ℕ, List, IsTrue, length, reverse, unsigned_abs};
+ghost use Rattle.std.specs.Prelude.{◌≡◌, ◌+◌, ◌<◌, ◌^◌, ℕ, List, None, IfOk, IsTrue, length, reverse, unsigned_abs};
 ghost use Rattle.wsm_record.specs.Schema.{Declared, is_schema};
 ghost use Rattle.wsm_lines.specs.declared.source.Source.{Source};
+ghost use Rattle.wsm_values.specs.declared.zone.Zone.{Zone};
+ghost use Rattle.wsm_description.specs.declared.description.Description.{Description};
+ghost use Rattle.wsm_source.specs.Binding.{bound};
 ghost use Rattle.wsm_semantics.specs.Query.{Query};
-ghost use Rattle.wsm_intake.specs.Intake.{Said};
-ghost use Rattle.wsm_row_laws.specs.SameRuns.{EndsAlike, WritesAlike};
+ghost use Rattle.wsm_log_rows.specs.Rows.{Said};
+ghost use Rattle.wsm_intake.specs.Intake.{Said as SaidWith};
+ghost use Rattle.wsm_row_laws.specs.Delivered.{AreSent, PassesDeliveries};
+ghost use Rattle.wsm_row_laws.specs.SameRuns.{AreWithout, EndsAlike, WritesAlike};
 ghost use Rattle.wsm_row_laws.specs.SaidRows.{AreReadBack, AreSayable, said};
+
+use wsm_doubles::laws::passes_by_number;
 
 /// A run over the rows that are written for the lines of a log reads the events that the source means of these lines, in their
 /// order, and a row of no event for each line that says none. What lines say must be of the keys and the types that are
-/// declared, as it is by a source that was bound to them.
+/// declared: so it is by a source that was bound to them ([`bound_sources_say_rows`]).
 pub fn rows_are_read()
     ensures { (s : Source) (d : Declared) (lines : List (List ℕ)) → IsTrue (is_schema d) → AreSayable d (said s d (reverse lines)) → (rows : List (List (List ℕ))) × AreReadBack s d lines rows }
 {}
 
-/// And it writes what a run over the log writes without clocks, turn by turn, but for the word of a line that says no event, and
-/// at the end the same.
+/// And it writes what a run over the log writes without clocks and identifiers, turn by turn, but for the word of a line that says no
+/// event, and at the end the same.
 pub fn runs_alike()
     ensures turns { (q : Query) (before : List Said) (x : Said) → length before + 1 < 2 ^ 64 → WritesAlike q before x }
     ensures end { (q : Query) (lines : List Said) → unsigned_abs q.clock.records < 2 ^ 64 → length lines < 2 ^ 64 → EndsAlike q lines }
+    ensures without { (s : Source) (d : Declared) (lines : List (List ℕ)) → s.identifier ≡ None → AreWithout s d lines }
 {}
+
+/// What lines say by a source that was bound to a query is of the keys and the types that the query declares, whatever the
+/// description, the zone, the file of names and the lines are.
+pub fn bound_sources_say_rows()
+    ensures { (x : Description) (d : Declared) (zone : Zone) (file : List ℕ) → IsTrue (is_schema d) → IfOk (bound x d zone file) (λ s. (lines : List (List ℕ)) → AreSayable d (said s d lines)) }
+{}
+
+/// Where each line says a record that the query could take, with an identifier, or none, a run over the log without clocks feeds the
+/// query what passes of these deliveries, and remembers what is remembered of them. So the law `passes_once` of `wsm_semantics` speaks
+/// of it.
+pub fn passes_deliveries()
+    ensures { (q : Query) (lines : List SaidWith) → AreSent q.declared lines → PassesDeliveries q lines }
+{
+    passes_by_number();
+}
