@@ -8,6 +8,7 @@
 pub use ahead::Ahead;
 pub use dealing::{DealEnd, add_part, deal};
 pub use part::Part;
+pub use row_text::add_row;
 pub use shares::{Shares, SharesRefusal};
 
 mod ahead;

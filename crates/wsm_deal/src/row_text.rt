@@ -15,9 +15,13 @@ const FEW: usize = 8;
 // How many bytes are asked for a row of few short cells: for 15 in each and one behind it, and one for the end.
 const SHORT_ROOM: usize = 16 * FEW + 1;
 
-/// Adds the text of a row, as `csv` writes it.
+/// Adds the text of a row, as `csv` writes it. It is read back as the row.
+///
+/// # Errors
+///
+/// Memory was refused.
 #[inline(always)]
-pub(crate) fn add_row(row: &ByteRecord, out: &mut Vec<u8>) -> Result<(), AllocError>
+pub fn add_row(row: &ByteRecord, out: &mut Vec<u8>) -> Result<(), AllocError>
     ensures { OnOk result (out.new.items ≡ out.old.items ++ csv.row_text csv.default_writer (fields_of row.now)) }
 {
     match short_tag(row) {

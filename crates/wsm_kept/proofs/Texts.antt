@@ -8,7 +8,7 @@ use Rattle.wsm_semantics.specs.Lines.{Row}
 use Rattle.wsm_csv.specs.Cells.{event_of_cells}
 use Rattle.wsm_keep.specs.declared.queue.Item.{Item}
 use Rattle.wsm_keep.specs.Holds.{Written, read, text_of}
-use Rattle.wsm_keep.specs.Items.{item_of, queue_of}
+use Rattle.wsm_keep.specs.Items.{queue_of}
 use Rattle.wsm_keep.specs.Staying.{row_of, staying}
 use Rattle.wsm_keep.proofs.Items.{queue_of-more}
 use Rattle.wsm_keep.proofs.Natural.{staying_through}

@@ -1,6 +1,5 @@
 -- What was written of rows, and of what stands in their place.
-use Rattle.std.proofs.Common.{◌≡◌, ℕ, List, [], ◌∷◌, ◌++◌, Bool, true, false, Option, Some, None, Result, Ok, Err, IfOk, OnErr, refl, sym, ap, subst, ◌∙◌, append_assoc, append-nil, arith}
-use Rattle.std.specs.Bool.{MatchBool}
+use Rattle.std.proofs.Common.{◌≡◌, ℕ, List, [], ◌∷◌, ◌++◌, Bool, true, false, Option, Some, None, Result, Ok, Err, OnErr, sym, subst, append_assoc, append-nil}
 use Rattle.std.specs.Io.KnownBytes.{Appends, Keeps}
 use Rattle.csv.specs.Writing.{default_writer, row_text}
 use Rattle.wsm_semantics.specs.Query.{Query}
@@ -11,9 +10,6 @@ use Rattle.wsm_csv.specs.declared.rows.Rows.{Rows}
 use Rattle.wsm_csv.proofs.RowsLemmas.{Follows-first}
 use Rattle.wsm_csv.proofs.Written.{Appends-start, Appends-join, Keeps-Appends, TakesPart-all, TakesPart-join, TakesPart-last}
 use Rattle.wsm_kept.specs.declared.cut.Cut.{Cut}
-use Rattle.wsm_kept.specs.declared.end.KeepEnd.{KeepEnd}
-use Rattle.wsm_kept.specs.declared.head.Head.{Head}
-use Rattle.wsm_kept.specs.Head.{BeginWith}
 use Rattle.wsm_kept.specs.Kept.{Cells, kept_text}
 use Rattle.wsm_kept.specs.Cut.{AreRead, Follow, FollowInPart, IsBegun, IsCut, IsWritten}
 use Rattle.wsm_kept.specs.Texts.{rows_text}
@@ -23,9 +19,6 @@ use Rattle.wsm_kept.proofs.Texts.{rows_text-more}
 pub on_err : {T E P : Type 0} (r : Result T E) → P → OnErr r P
 on_err (Ok v) p = tt
 on_err (Err e) p = p
-
-pub none_taken : (known : Option (List ℕ)) (text : List ℕ) → TakesPart known known text
-none_taken known text = (0, omega arith, Appends-start known)
 
 pub all_first : (known : Option (List ℕ)) (rows : List Cells) → AreAll known rows → AreFirst known rows
 all_first None rows h = tt
@@ -153,11 +146,3 @@ module _ {R : Type 0} (remaining : R → Option (List ℕ)) (known : Option (Lis
     head = is.head;
     part = TakesPart-last old mid new text_is (rows_text more.behind) (subst (Appends old mid) is.text text) more.part;
   }
-
--- rows are cut, as a pass ended
-pub is_cut : {R : Type 0} (remaining : R → Option (List ℕ)) (known : Option (List ℕ)) (q : Query) (sum : ℕ) (rows : Rows R) (past : List Cells) (old : Head) (at_end : Bool) (r : Result Cut KeepEnd)
-    → BeginWith past old → AreRead remaining known past rows at_end → IfOk r (λ cut. cut.text.items ≡ kept_text q sum old past) → IfOk r (λ cut. cut.at_end ≡ at_end)
-    → IfOk r (IsCut remaining known q sum rows)
-is_cut remaining known q sum rows past old at_end (Ok cut) head read text same =
-    record { past = past; old = old; head = head; text = text; read = subst (AreRead remaining known past rows) (sym same) read }
-is_cut remaining known q sum rows past old at_end (Err end) head read text same = tt

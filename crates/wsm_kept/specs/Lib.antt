@@ -3,3 +3,7 @@ pub mod Kept
 pub mod Texts
 pub mod Cut
 pub mod KeptRows
+pub mod Run
+pub mod Stay
+pub mod Pass
+pub mod Unseen

@@ -10,3 +10,19 @@ pub struct Counts {
     /// The records that are taken.
     pub admitted: u64,
 }
+
+impl Counts {
+    ghost use Rattle.std.specs.Prelude.{◌≡◌};
+    ghost use Rattle.wsm_kept.specs.Run.{no_counts};
+
+    /// Those of no rows.
+    pub fn none() -> Counts
+        ensures { result ≡ no_counts }
+    {
+        Counts {
+            rows: 0,
+            lines: 0,
+            admitted: 0,
+        }
+    }
+}

@@ -6,7 +6,7 @@ use wsm_csv::{DeviceFault, ReadEnd};
 /// Why rows aren't cut, or what is written for them ended early.
 #[derive(Clone, Copy, Debug, PartialEq, Eq)]
 pub enum KeepEnd {
-    /// The first row begins as a head does, and is none.
+    /// The first row begins as a head does, and is none: it isn't written as one, or speaks of no rows.
     BadHead,
     /// The rows were cut for another query.
     OtherQuery,

@@ -6,6 +6,7 @@ ghost use Rattle.csv.specs.Records.{fields_of};
 ghost use Rattle.csv.specs.Writing.{default_writer, row_text};
 ghost use Rattle.wsm_kept.specs.Head.{head_text, is_tag, is_tagged};
 
+use crate::counts::Counts;
 use crate::end::KeepEnd;
 use crate::row_text::text_of;
 use csv::ByteRecord;
@@ -23,7 +24,9 @@ pub struct Head {
     pub kept: u64,
     /// How many lines a run over these writes.
     pub own: u64,
-    /// The RECORDS by which a run over these takes as many records as one over all would.
+    /// The RECORDS by which a run over these takes as many records as one over all would: those that stay, and those that
+    /// may still come. It is 0 where none stays and none may come, which no query says; by one with RECORDS 1 a record more
+    /// is taken.
     pub records: u64,
     /// A sum of the query's text.
     pub sum: u64,
@@ -32,7 +35,10 @@ pub struct Head {
 impl Head {
     ghost use Rattle.std.specs.Prelude.{◌≡◌, ◌++◌, IfOk, OnOk};
     ghost use Rattle.csv.specs.Records.{fields_of};
+    ghost use Rattle.std.specs.Prelude.{unsigned_abs};
+    ghost use Rattle.wsm_semantics.specs.Query.{Query};
     ghost use Rattle.wsm_kept.specs.Head.{Says, head_text, no_head};
+    ghost use Rattle.wsm_kept.specs.Kept.{head_by};
 
     /// That of rows of which none is gone.
     pub fn none() -> Head
@@ -64,6 +70,25 @@ impl Head {
             Ok(head)
         } else {
             Err(KeepEnd::BadHead)
+        }
+    }
+
+    /// What rows stand for that followed on this, where a run over them comes to these counts, and one over what stands in
+    /// their place to the others, by a program that takes so many records.
+    pub fn behind(&self, sum: u64, records: u64, all: Counts, own: Counts) -> Head
+        ensures { (q : Query) → unsigned_abs q.clock.records ≡ records → result ≡ head_by q sum self.now all own }
+    {
+        Head {
+            rows: self.rows.saturating_add(all.rows.saturating_sub(self.kept)),
+            lines: self
+                .lines
+                .saturating_add(all.lines.saturating_sub(self.own)),
+            kept: own.rows,
+            own: own.lines,
+            records: records
+                .saturating_sub(all.admitted)
+                .saturating_add(own.admitted),
+            sum,
         }
     }
 

@@ -1,19 +1,26 @@
 //! Rows that are cut down to those that a run needs to go on.
 //!
 //! A [`Cut`] is what stands in the place of rows: a [`Head`], which says what they came to, and the rows that stay.
-//! [`write_cut`] writes both, and the rows behind them.
+//! [`cut_rows`] cuts the rows of a reader, and [`write_cut`] writes both, and the rows behind them.
 #![tactic(auto)]
 
+pub use asked::Asked;
 pub use counts::Counts;
 pub use cut::Cut;
+pub use cutting::cut_rows;
 pub use end::KeepEnd;
 pub use head::Head;
 pub use write::write_cut;
 
+mod asked;
 mod counts;
 mod cut;
+mod cutting;
 mod end;
 mod head;
 pub mod laws;
+mod pass;
 mod row_text;
+mod run;
+mod stay;
 mod write;

@@ -1,4 +1,4 @@
-use Rattle.std.proofs.Common.{◌≡◌, ◌∙◌, ◌++◌, ◌∷◌, [], List, Err, map, reverse, refl, sym, ap, subst}
+use Rattle.std.proofs.Common.{◌≡◌, ◌++◌, ◌∷◌, [], List, Err, map, reverse, refl, subst}
 use Rattle.wsm_record.specs.declared.event.RowFault.TheVariants.{BadTag}
 use Rattle.wsm_semantics.specs.Query.{Query}
 use Rattle.wsm_semantics.specs.Lines.{Row}
@@ -7,7 +7,7 @@ use Rattle.wsm_keep.specs.GoesOn.{GoesOn}
 use Rattle.wsm_keep.specs.Holds.{read}
 use Rattle.wsm_keep.specs.Staying.{staying}
 use Rattle.wsm_kept.specs.Head.{head_tag}
-use Rattle.wsm_kept.specs.Kept.{Cells, kept_rows, rows_of, written}
+use Rattle.wsm_kept.specs.Kept.{kept_rows, rows_of, written}
 use Rattle.wsm_kept.proofs.Texts.{read_written, rows_in_place}
 use Rattle.wsm_kept.proofs.laws.goes_on.Goals as goal
 

@@ -1,4 +1,4 @@
-use Rattle.std.proofs.Common.{◌++◌, ◌∷◌, [], subst}
+use Rattle.std.proofs.Common.{◌++◌, subst}
 use Rattle.csv.specs.Writing.{default_writer, row_text}
 use Rattle.std.specs.Io.KnownBytes.{Appends}
 use Rattle.wsm_csv.specs.Device.{TakesPart}

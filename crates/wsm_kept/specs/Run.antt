@@ -1,0 +1,43 @@
+-- What a run that is counted keeps, and how it fits the rows so far.
+use Rattle.std.specs.Prelude.{◌≡◌, ℕ, Bool, false, List, Ok}
+use Rattle.std.specs.Bool.{MatchBool}
+use Rattle.wsm_record.specs.Event.{Event}
+use Rattle.wsm_record.specs.Schema.{Declared}
+use Rattle.wsm_admission.specs.Clock.{admitted_count, fits_declared}
+use Rattle.wsm_semantics.specs.Lines.{Row, events}
+use Rattle.wsm_program.specs.Program.{Program}
+use Rattle.wsm_machine.specs.Meaning.{query_of}
+use Rattle.wsm_engine.specs.State.{State}
+use Rattle.wsm_engine.specs.Meaning as engine
+use Rattle.wsm_csv.specs.declared.event_reader.EventReader.{EventReader}
+use Rattle.wsm_csv.specs.EventReader.{event_read, fits_read}
+use Rattle.wsm_keep.specs.Staying.{is_event}
+use Rattle.wsm_kept.specs.declared.counts.Counts.{Counts}
+use Rattle.wsm_kept.specs.declared.run.Run.{Run}
+use Rattle.wsm_kept.specs.Kept.{counts_of}
+
+abbrev pub no_counts : Counts
+no_counts = record { rows = 0; lines = 0; admitted = 0 }
+
+-- how many records a program takes of a history
+abbrev pub admitted_by : Program → List Event → ℕ
+admitted_by p past = let q = query_of p in admitted_count q.clock q.shape q.declared past
+
+-- the engine of the program, after a history of events
+pub record EngineFits (p : Program) (s : State) (past : List Event) : Type 0 where
+  pub program : s.program ≡ p
+  pub fits : engine.Fits s past
+
+-- a run of the program, after rows
+pub record Fits (p : Program) (run : Run) (before : List Row) : Type 0 where
+  pub engine : EngineFits p run.engine (events before)
+  pub counts : run.counts ≡ counts_of (query_of p) before
+
+-- the event that was read last is the row's
+pub record IsRead (declared : Declared) (events : EventReader) (row : Row) : Type 0 where
+  pub event : row ≡ Ok (event_read events)
+  pub fits : fits_read events ≡ fits_declared declared (event_read events)
+
+-- it is told whether a row is an event
+abbrev pub Tells : Declared → EventReader → Row → Bool → Type 0
+Tells declared events row is = MatchBool is (IsRead declared events row) (is_event row ≡ false)

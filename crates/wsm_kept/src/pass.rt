@@ -1,0 +1,228 @@
+//! The pass over rows that are cut.
+
+ghost use Rattle.std.specs.Prelude.{◌≡◌, List, IfOk};
+ghost use Rattle.csv.specs.Records.{fields_of};
+ghost use Rattle.wsm_semantics.specs.Query.{Query};
+ghost use Rattle.wsm_kept.specs.Head.{Says};
+ghost use Rattle.wsm_kept.specs.Kept.{Cells, counts_of, rows_of};
+ghost use Rattle.wsm_kept.specs.Pass.{IsCutAs, IsLimit, IsOf};
+ghost use Rattle.wsm_kept.specs.Stay.{IsStay};
+
+use crate::asked::Asked;
+use crate::counts::Counts;
+use crate::cut::Cut;
+use crate::end::KeepEnd;
+use crate::head::Head;
+use crate::row_text::text_of;
+use crate::run::Run;
+use crate::stay::{Stay, stay_of};
+use csv::ByteRecord;
+use std::alloc::Global;
+use wsm_cut::Cutter;
+use wsm_rules::Verified;
+
+/// What the rows so far come to.
+pub struct Pass {
+    // A run over the rows that are cut, and over the next one, where that isn't.
+    run: Run,
+    cutter: Cutter,
+    // What a run over the rows that are cut comes to.
+    counts: Counts,
+    // What the first row says of those before it.
+    head: Head,
+    // How many lines a run over the rows that are cut writes at most.
+    most: u64,
+    asked: Asked,
+}
+
+impl Drop for Pass {
+    fn drop(self) {
+        let Pass {
+            run: _,
+            cutter: _,
+            counts: _,
+            head: _,
+            most: _,
+            asked: _,
+        } = self;
+    }
+}
+
+impl Pass {
+    ghost use Rattle.std.specs.Prelude.{◌≡◌, ◌∷◌, ◌++◌, List, [], IfOk, OnOk, false, true};
+    ghost use Rattle.csv.specs.Records.{fields_of};
+    ghost use Rattle.wsm_program.specs.Program.{Program};
+    ghost use Rattle.wsm_machine.specs.Meaning.{query_of};
+    ghost use Rattle.wsm_csv.specs.Cells.{event_of_cells};
+    ghost use Rattle.wsm_cut.specs.Cutter as cutter;
+    ghost use Rattle.wsm_kept.specs.Kept.{Cells, written};
+    ghost use Rattle.wsm_kept.specs.Pass.{Cuts, Fits, IsCutAs, IsReady, Taken};
+    ghost use Rattle.wsm_kept.specs.Run.{Tells};
+
+    /// Before the first row, by a program of which there are two.
+    pub fn open(
+        alloc: Global,
+        verified: Verified,
+        twin: Verified,
+        asked: Asked,
+    ) -> Result<Pass, KeepEnd>
+        requires { twin ≡ verified }
+        ensures ready { IfOk result IsReady }
+        ensures asked { IfOk result (λ pass. pass.asked ≡ asked) }
+        ensures fits { IfOk result (λ pass. Fits verified pass []) }
+    {
+        let head = Head::none();
+        let most = most_of(asked.taken, &head)?;
+        let run = Run::open(alloc, twin)?;
+        Ok(Pass {
+            run,
+            cutter: Cutter::open(alloc, verified),
+            counts: Counts::none(),
+            head,
+            most,
+            asked,
+        })
+    }
+
+    /// Takes the next row, and answers whether it is cut. Else the pass ends in front of it.
+    pub fn take(&mut self, alloc: Global, row: &ByteRecord) -> Result<bool, KeepEnd>
+        requires { IsReady self.old }
+        ensures asked { self.new.asked ≡ self.old.asked }
+        ensures ready { IsReady self.new }
+        ensures taken { (p : Program) (past : List Cells) → Fits p self.old past → IfOk result (Taken p self.new past (fields_of row.now)) }
+    {
+        self.begin(alloc, row)?;
+        let is_event = self.run.take(row)?;
+        if self.most < self.run.counts().lines {
+            return self.stop();
+        }
+        self.keep(alloc, row, is_event)?;
+        self.go_on()
+    }
+
+    // Takes what the first row says of those before it.
+    fn begin(&mut self, alloc: Global, row: &ByteRecord) -> Result<(), KeepEnd>
+        ensures asked { self.new.asked ≡ self.old.asked }
+        ensures run { self.new.run ≡ self.old.run }
+        ensures cutter { self.new.cutter ≡ self.old.cutter }
+        ensures begun { (p : Program) (past : List Cells) → Fits p self.old past → OnOk result (Cuts p self.new past (past ++ fields_of row.now ∷ [])) }
+    {
+        if self.counts.rows == 0 {
+            let head = head_for(alloc, self.asked.sum, row)?;
+            self.most = most_of(self.asked.taken, &head)?;
+            self.head = head;
+        }
+        Ok(())
+    }
+
+    // Ends the pass. The rows that the first one speaks of were there.
+    fn stop(&self) -> Result<bool, KeepEnd>
+        ensures { (p : Program) (past : List Cells) (row : Cells) → Cuts p self.now past (past ++ row ∷ []) → IfOk result (λ is_cut. (is_cut ≡ false) × Cuts p self.now past past) }
+    {
+        if self.counts.rows < self.head.kept {
+            return Err(KeepEnd::OtherRows);
+        }
+        Ok(false)
+    }
+
+    // Keeps a row that may stay.
+    fn keep(&mut self, alloc: Global, row: &ByteRecord, is_event: bool) -> Result<(), KeepEnd>
+        requires ready { IsReady self.old }
+        requires tells { Tells self.old.run.engine.program.header.schema self.old.run.events (event_of_cells self.old.run.engine.program.header.schema (fields_of row.now)) is_event }
+        ensures ready { IsReady self.new }
+        ensures cutter { (p : Program) (past : List Cells) → cutter.Fits p self.old.cutter (written (query_of p) past) → OnOk result (cutter.Fits p self.new.cutter (written (query_of p) (past ++ fields_of row.now ∷ []))) }
+        ensures others { self.new ≡ record self.old { cutter = self.new.cutter } }
+    {
+        if is_event {
+            let text = text_of(alloc, row)?;
+            self.cutter
+                .take(self.run.event(), self.run.values_fit(), text)?;
+        }
+        Ok(())
+    }
+
+    // Goes on behind a row that is cut. Those that the first one speaks of write as many lines as it says.
+    fn go_on(&mut self) -> Result<bool, KeepEnd>
+        ensures counts { self.new ≡ record self.old { counts = self.old.run.counts } }
+        ensures cut { IfOk result (λ is_cut. is_cut ≡ true) }
+        ensures own { OnOk result (self.old.run.counts.rows ≡ self.old.head.kept → self.old.run.counts.lines ≡ self.old.head.own) }
+    {
+        self.counts = self.run.counts();
+        if self.counts.rows == self.head.kept && self.counts.lines != self.head.own {
+            return Err(KeepEnd::OtherRows);
+        }
+        Ok(true)
+    }
+
+    /// What stands in the place of the rows that are cut.
+    pub fn finish(self, alloc: Global, at_end: bool) -> Result<Cut, KeepEnd>
+        requires { IsReady self }
+        ensures { (p : Program) (past read : List Cells) → Cuts p self past read → IfOk result (IsCutAs (query_of p) self.asked self.head past at_end) }
+    {
+        let Pass {
+            run,
+            cutter,
+            counts,
+            head,
+            most: _,
+            asked,
+        } = self;
+        drop(run);
+        let stay = stay_of(alloc, cutter)?;
+        cut_by(alloc, asked, head, counts, &stay, at_end)
+    }
+}
+
+// What stands in the place of rows that come to these counts, and of which these stay.
+fn cut_by(
+    alloc: Global,
+    asked: Asked,
+    old: Head,
+    counts: Counts,
+    stay: &Stay,
+    at_end: bool,
+) -> Result<Cut, KeepEnd>
+    ensures { (q : Query) (past : List Cells) → counts ≡ counts_of q (rows_of q past) → IsStay q past stay.now → IfOk result (IsCutAs q asked old past at_end) }
+{
+    if counts.rows < old.kept {
+        return Err(KeepEnd::OtherRows);
+    }
+    let head = old.behind(asked.sum, stay.records, counts, stay.own);
+    asked.check(&head, at_end)?;
+    Ok(Cut {
+        head,
+        text: stay.behind(alloc, &head)?,
+        at_end,
+    })
+}
+
+// What the first row says of those before it, where it speaks of rows that were cut for this query.
+fn head_for(alloc: Global, sum: u64, row: &ByteRecord) -> Result<Head, KeepEnd>
+    ensures says { IfOk result (Says (fields_of row.now)) }
+    ensures of { IfOk result (IsOf sum) }
+{
+    let head = Head::of(alloc, row)?;
+    if head == Head::none() {
+        return Ok(head);
+    }
+    if head.kept == 0 {
+        return Err(KeepEnd::BadHead);
+    }
+    if head.sum != sum {
+        return Err(KeepEnd::OtherQuery);
+    }
+    Ok(head)
+}
+
+// How many lines rows with this head may write, of which so many of all were taken.
+fn most_of(taken: Option<u64>, head: &Head) -> Result<u64, KeepEnd>
+    ensures { IfOk result (IsLimit taken head.now) }
+{
+    let Some(taken) = taken else {
+        return Ok(u64::MAX);
+    };
+    match taken.checked_sub(head.lines) {
+        Some(left) => Ok(left.saturating_add(head.own)),
+        None => Err(KeepEnd::Gone),
+    }
+}
