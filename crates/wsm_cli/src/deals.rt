@@ -38,8 +38,8 @@ fn shares_of<R: Files + AllocGlobal>(rt: &R, keys: &String, parts: &String) -> R
     Ok(Shares::for_parts(rt.alloc(), &text, number_of(parts))?)
 }
 
-// The number that a word writes in digits alone.
-fn number_of(word: &String) -> Option<usize> {
+/// The number that a word writes in digits alone.
+pub fn number_of(word: &String) -> Option<usize> {
     if word.as_bytes().iter().all(|byte| byte.is_ascii_digit()) {
         word.as_str().parse::<usize>().ok()
     } else {

@@ -1,6 +1,7 @@
 //! What the jobs of the program do with files, standard input and standard output.
 
 use crate::deals::deal_or_tell;
+use crate::keeps::keep;
 use crate::logs::{rows_from, run_from};
 use crate::sources::source_for;
 use crate::stop::Stop;
@@ -15,7 +16,7 @@ use wsm::{
 use wsm_rules::Verified;
 
 /// Does the job; somebody may look at standard error meanwhile. It is false where a program was judged and rejected.
-pub fn done<R: Files + AllocGlobal + Input + Print + Eprint + Clock>(
+pub fn done<R: Files<File = File> + AllocGlobal + Input + Print + Eprint + Clock>(
     rt: &R,
     job: &Job,
     is_looked_at: bool,
@@ -65,6 +66,20 @@ pub fn done<R: Files + AllocGlobal + Input + Print + Eprint + Clock>(
             out,
             rows,
         } => deal_or_tell(rt, *keys_of, keys, parts, out, rows.as_ref()),
+        Job::Keep {
+            program,
+            taken,
+            most,
+            query,
+            rows,
+        } => keep(
+            rt,
+            *program,
+            taken.as_ref(),
+            most.as_ref(),
+            query,
+            rows.as_ref(),
+        ),
     }
 }
 
@@ -103,8 +118,8 @@ fn accepted<R: Files + AllocGlobal>(rt: &R, program: bool, name: &String) -> Res
     accepted_of(rt.alloc(), input_of(program, &bytes))
 }
 
-// The bytes of a program, or the text of a query.
-fn input_of(program: bool, bytes: &[u8]) -> Judged<'_> {
+/// The bytes of a program, or the text of a query.
+pub fn input_of(program: bool, bytes: &[u8]) -> Judged<'_> {
     if program {
         Judged::Program(bytes)
     } else {
@@ -163,7 +178,7 @@ fn judged_with<R: Files + AllocGlobal + Print>(
 ) -> Result<bool, Stop> {
     match accepted(rt, !query, program) {
         Ok(verified) => {
-            source_for(rt, source, &verified, false)?;
+            source_for(rt, source, &verified)?;
             Ok(judged(rt, query, program, false)?)
         }
         Err(End::Rejected(_)) => Ok(judged(rt, query, program, false)?),

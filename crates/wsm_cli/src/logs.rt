@@ -1,6 +1,6 @@
 //! What the jobs of the program do with the lines of logs.
 
-ghost use Rattle.wsm_intake.specs.Clocks.{AreClocks};
+ghost use Rattle.wsm_turns.specs.Clocks.{AreClocks};
 
 use crate::jobs::end_of;
 use crate::progress::Watched;
@@ -24,7 +24,7 @@ pub fn run_from<R: Files + AllocGlobal + Input + Print + Eprint + Clock>(
     log: Option<&String>,
     is_looked_at: bool,
 ) -> Result<bool, Stop> {
-    let bound = source_for(rt, source, &verified, true)?;
+    let bound = source_for(rt, source, &verified)?;
     match log {
         None => Ok(log_over(rt, verified, bound, rt.reader())?),
         Some(log) => {
@@ -62,7 +62,7 @@ pub fn rows_from<R: Files + AllocGlobal + Input + Print + Eprint + Clock>(
     log: Option<&String>,
     is_looked_at: bool,
 ) -> Result<bool, Stop> {
-    let bound = source_for(rt, source, verified, false)?;
+    let bound = source_for(rt, source, verified)?;
     match log {
         None => Ok(rows_over(rt, verified, bound.source, rt.reader())?),
         Some(log) => {

@@ -7,14 +7,18 @@
 
 mod deals;
 mod jobs;
+mod keeps;
 mod logs;
 mod progress;
 mod sources;
 mod stop;
+mod sums;
+mod whole;
 
 use crate::jobs::done;
-use crate::stop::{Stop, WordsFault};
+use crate::stop::{RowsFault, Stop, WordsFault};
 use std::env;
+use std::fs::File;
 use std::io::{self, ErrorKind, IsTerminal};
 use std::process::ExitCode;
 use std::rt::{Env, Files};
@@ -27,6 +31,12 @@ const REFUSED_WORDS: u8 = 2;
 
 /// A source was refused, as a query's text may be.
 const REFUSED_SOURCE: u8 = 3;
+
+/// Another one holds the file of the rows: again after a pause.
+const HELD_ROWS: u8 = 8;
+
+/// The rows aren't those of the query, or are damaged: somebody must look.
+const UNFIT_ROWS: u8 = 9;
 
 fn main(rt: HostRuntime) -> ExitCode {
     match words_of(&rt) {
@@ -45,7 +55,7 @@ fn words_of<R: Env + AllocGlobal>(rt: &R) -> io::Result<Vec<String>> {
 }
 
 // Does what the words ask for. Somebody may look at standard error meanwhile.
-fn act<R: Files + AllocGlobal + Input + Print + Eprint + Clock>(
+fn act<R: Files<File = File> + AllocGlobal + Input + Print + Eprint + Clock>(
     rt: &R,
     words: &[String],
     is_looked_at: bool,
@@ -65,7 +75,7 @@ fn act<R: Files + AllocGlobal + Input + Print + Eprint + Clock>(
 }
 
 // Does the job, and gives the status.
-fn status<R: Files + AllocGlobal + Input + Print + Eprint + Clock>(
+fn status<R: Files<File = File> + AllocGlobal + Input + Print + Eprint + Clock>(
     rt: &R,
     job: &Job,
     is_looked_at: bool,
@@ -76,6 +86,7 @@ fn status<R: Files + AllocGlobal + Input + Print + Eprint + Clock>(
         Err(Stop::End(end)) => ended(rt, end),
         Err(Stop::Source(refusal)) => refused_source(rt, &refusal),
         Err(Stop::Words(fault)) => mismatched_words(rt, fault),
+        Err(Stop::Rows(fault)) => uncut_rows(rt, fault),
     }
 }
 
@@ -106,8 +117,18 @@ fn mismatched_words<R: Eprint>(rt: &R, fault: WordsFault) -> ExitCode {
         WordsFault::RowsOfKeys => eprintln!(rt; "wsm: --keys-of takes no ROWS"),
         WordsFault::RowsAsPart(part) => eprintln!(rt; "wsm: ROWS is the file of part {part}"),
         WordsFault::KeysAsPart(part) => eprintln!(rt; "wsm: KEYS is the file of part {part}"),
+        WordsFault::NoNumber(option) => eprintln!(rt; "wsm: {option} takes a number"),
     };
     ExitCode::from(REFUSED_WORDS)
+}
+
+// Prints why rows aren't cut.
+fn uncut_rows<R: Eprint>(rt: &R, fault: RowsFault) -> ExitCode {
+    let _ = eprintln!(rt; "wsm: {fault}");
+    match fault {
+        RowsFault::Held => ExitCode::from(HELD_ROWS),
+        _ => ExitCode::from(UNFIT_ROWS),
+    }
 }
 
 // A word is no text.

@@ -1,7 +1,7 @@
 //! Sources: the files that say how the lines of a log are read.
 
 ghost use Rattle.std.specs.Prelude.{IfOk};
-ghost use Rattle.wsm_intake.specs.Clocks.{AreClocks};
+ghost use Rattle.wsm_turns.specs.Clocks.{AreClocks};
 
 use crate::jobs::{end_of, read};
 use crate::stop::Stop;
@@ -9,13 +9,13 @@ use std::fs;
 use std::io::ErrorKind;
 use std::rt::Files;
 use wsm::End;
-use wsm_intake::{Clocks, clocks_of};
 use wsm_lines::Source;
 use wsm_rules::Verified;
 use wsm_source::{
     ClockDescription, Description, FormDescription, KeyNaming, Refusal, SourceFault, SourceRefusal,
     bind, describe,
 };
+use wsm_turns::{Clocks, clocks_of};
 use wsm_values::{Word, Zone, ZoneFault};
 
 // Where the zones of the system stand.
@@ -28,12 +28,11 @@ pub struct Bound {
     pub clocks: Option<Clocks>,
 }
 
-/// The source that a file has, for an accepted program. A run leaves no doubles out, and takes none with identifiers.
+/// The source that a file has, for an accepted program.
 pub fn source_for<R: Files + AllocGlobal>(
     rt: &R,
     name: &String,
     verified: &Verified,
-    is_run: bool,
 ) -> Result<Bound, Stop>
     ensures { IfOk result (λ bound. AreClocks bound.clocks) }
 {
@@ -44,9 +43,6 @@ pub fn source_for<R: Files + AllocGlobal>(
     let description = describe(rt.alloc(), text)?;
     let source = source_of(rt, name, text, &description, verified)?;
     let clocks = clocks_for(rt, text, description.clock, verified)?;
-    if is_run && source.identifier.is_some() {
-        return Err(refused(rt, SourceFault::Conflict, "identifier", text));
-    }
     Ok(Bound { source, clocks })
 }
 

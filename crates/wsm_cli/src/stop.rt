@@ -1,7 +1,9 @@
 //! How a job ended early.
 
 use std::alloc::{AllocError, AllocFailed};
+use std::fmt;
 use wsm::End;
+use wsm_kept::KeepEnd;
 use wsm_source::SourceRefusal;
 
 /// How a job ended early.
@@ -11,6 +13,8 @@ pub enum Stop {
     Source(SourceRefusal),
     /// Its words don't go together; nothing was made or written.
     Words(WordsFault),
+    /// Its rows aren't cut.
+    Rows(RowsFault),
     /// As a job without a source ends.
     End(End),
 }
@@ -24,6 +28,46 @@ pub enum WordsFault {
     RowsAsPart(usize),
     /// The file of the keys is that of a part.
     KeysAsPart(usize),
+    /// An option takes a number, and has none.
+    NoNumber(&'static str),
+}
+
+/// Why rows aren't cut.
+#[derive(Clone, Copy)]
+pub enum RowsFault {
+    /// Another one holds the lock of the file.
+    Held,
+    /// A row has a quote.
+    Quote,
+    /// The first row begins as a head does, and is none.
+    BadHead,
+    /// They were cut for another query.
+    OtherQuery,
+    /// Those behind the head aren't those that it speaks of.
+    OtherRows,
+    /// The rows of the lines that weren't taken are gone.
+    Gone,
+    /// They write fewer lines than were taken.
+    FewerLines,
+    /// They were cut, and somebody who held no lock wrote to the file meanwhile: what came was added.
+    Written,
+}
+
+impl fmt::Display for RowsFault {
+    fn fmt<W: fmt::Write>(&self, f: &mut fmt::Formatter<W>) -> fmt::Result {
+        f.write_str(match self {
+            RowsFault::Held => "ROWS is being written: ROWS.lock is held",
+            RowsFault::Quote =>
+                "ROWS has a quote, so where its rows end can't be told by its lines",
+            RowsFault::BadHead => "the first row is none that keep wrote",
+            RowsFault::OtherQuery => "the rows were kept for another query",
+            RowsFault::OtherRows => "the rows behind the first one aren't those that it speaks of",
+            RowsFault::Gone => "the rows of lines that weren't taken are no longer there",
+            RowsFault::FewerLines => "more lines were taken than these rows write: they are others",
+            RowsFault::Written =>
+                "ROWS was written while it was cut: stop whoever writes it, or have it hold ROWS.lock",
+        })
+    }
 }
 
 impl From<End> for Stop {
@@ -35,6 +79,21 @@ impl From<End> for Stop {
 impl From<SourceRefusal> for Stop {
     fn from(refusal: SourceRefusal) -> Stop {
         Stop::Source(refusal)
+    }
+}
+
+impl From<KeepEnd> for Stop {
+    fn from(end: KeepEnd) -> Stop {
+        match end {
+            KeepEnd::BadHead => Stop::Rows(RowsFault::BadHead),
+            KeepEnd::OtherQuery => Stop::Rows(RowsFault::OtherQuery),
+            KeepEnd::OtherRows => Stop::Rows(RowsFault::OtherRows),
+            KeepEnd::Gone => Stop::Rows(RowsFault::Gone),
+            KeepEnd::FewerLines => Stop::Rows(RowsFault::FewerLines),
+            KeepEnd::ReadFailed => Stop::End(End::ReadFailed),
+            KeepEnd::Memory => Stop::End(End::Memory),
+            KeepEnd::WriteFailed => Stop::End(End::WriteFailed),
+        }
     }
 }
 

@@ -5,7 +5,7 @@ use Rattle.clap.specs.declared.builder.ArgAction.TheVariants.{SetTrue}
 use Rattle.clap.specs.declared.error.Error.{Error}
 use Rattle.clap.specs.declared.error.kind.ErrorKind.TheVariants.{OutOfMemory}
 use Rattle.wsm_words.specs.declared.words.Job.{Job}
-use Rattle.wsm_words.specs.declared.words.Job.TheVariants.{Run, Compile, Migrate, Verify, Explain, Deal, Rows}
+use Rattle.wsm_words.specs.declared.words.Job.TheVariants.{Run, Compile, Migrate, Verify, Explain, Deal, Rows, Keep}
 use Rattle.wsm_words.specs.declared.words.WordsRefusal.{WordsRefusal}
 use Rattle.wsm_words.specs.declared.words.WordsRefusal.TheVariants.{Words, Memory}
 
@@ -58,6 +58,14 @@ abbrev pub rows_app : App
 rows_app =
     with_rule (with_rule (with_rule (with_rule (new_app (codes "rows")) (flag_rule (codes "program"))) (file_rule (codes "source"))) (file_rule (codes "query"))) rows_rule
 
+-- keep [--program] [--taken LINES] [--most BYTES]
+abbrev pub keeping_app : App
+keeping_app = with_rule (with_rule (with_rule (new_app (codes "keep")) (flag_rule (codes "program"))) (option_rule (codes "taken"))) (option_rule (codes "most"))
+
+-- keep [--program] [--taken LINES] [--most BYTES] QUERY [ROWS]
+abbrev pub keep_app : App
+keep_app = with_rule (with_rule keeping_app (file_rule (codes "query"))) rows_rule
+
 -- the program's command, which wants a subcommand and tells its version
 abbrev pub required_app : App
 required_app = let a = new_app (codes "wsm") in record a { top = record a.top { has_version = true; subcommand_required = true } }
@@ -75,8 +83,12 @@ abbrev pub judging_apps : App
 judging_apps = with_subcommand (with_subcommand writing_app verify_app.top) explain_app.top
 
 -- with those that deal or write rows, too
+abbrev pub row_apps : App
+row_apps = with_subcommand (with_subcommand judging_apps deal_app.top) rows_app.top
+
+-- and with the one that cuts rows: all of them
 abbrev pub the_app : App
-the_app = with_subcommand (with_subcommand judging_apps deal_app.top) rows_app.top
+the_app = with_subcommand row_apps keep_app.top
 
 -- what a flag's text says: one of these, or there is none
 abbrev pub SaysFlag : Option Text → Bool → Type 0
@@ -116,6 +128,10 @@ IsJob name entries (Deal keys_of keys parts out rows) =
 IsJob name entries (Rows program source query rows) =
     (name ≡ codes "rows") × SaysFlag (one_of (codes "program") entries) program
     × Names entries (codes "source") source × Names entries (codes "query") query × NamesRows entries rows
+IsJob name entries (Keep program taken most query rows) =
+    (name ≡ codes "keep") × SaysFlag (one_of (codes "program") entries) program
+    × HasOption entries (codes "taken") taken × HasOption entries (codes "most") most
+    × Names entries (codes "query") query × NamesRows entries rows
 
 -- a job is that of the subcommand and its entries
 abbrev pub IsJobOf : Option (Text × List Row) → Job → Type 0

@@ -34,7 +34,9 @@ Statuses:
   4  a program was rejected
   5  memory was refused
   6  a file couldn't be opened or read
-  7  the output failed";
+  7  the output failed
+  8  another one holds the file of the rows: again after a pause
+  9  the rows aren't those of the query, or are damaged: somebody must look";
 
 /// What the command `run` does.
 pub const RUN: &str =
@@ -252,3 +254,42 @@ cell, and a line that gives no row is told by a word:
 writes
 
   unread,NoTime";
+
+/// What the command `keep` does.
+pub const KEEP: &str =
+    "Cuts rows down to those that a run needs to go on: what it writes from there on is the same.";
+
+/// What the option for the lines that were taken says.
+pub const TAKEN: &str =
+    "Rows are cut only whose lines are among the first LINES of all; else each row is";
+
+/// What the option for the most bytes says.
+pub const MOST: &str = "Rows are cut only among the first BYTES bytes; else all may be";
+
+/// What the file of the rows that are cut is.
+pub const KEPT_ROWS: &str =
+    "The file of the rows, which is replaced; where it is left out or `-`, standard input is cut to standard output";
+
+/// An example of the command `keep`.
+pub const KEEP_EXAMPLE: &str = "With the query of `wsm --help`,
+
+  printf 'r,a,5,7\\nr,a,59,3\\nw,60\\nr,b,70,1\\nw,80\\n' | wsm keep sums.wsm
+
+writes
+
+  kept,5,1,4,1,998,1646213666
+  w,60
+  r,b,70,1
+  w,80
+
+since the window of the first two records was dropped at 70. The first row says that 5 rows wrote
+1 line, and that 4 rows stand for them, this one too, for which a run writes 1 line of its own: it
+refuses the first row. So whoever takes the lines passes over 1, and the next one is line 2 of all. In
+a line `refused,ROW,WORD` behind them ROW is greater by 5 - 4 over all rows. With RECORDS 998 as many
+records are taken in all as without the cut; else RECORDS counts anew. The last number is a sum of
+the query. A file that was cut may be cut again, for the same query.
+
+A file is cut in place where it becomes smaller: `wsm keep sums.wsm rows.csv`. The new one is written
+beside, synced and renamed, so a kill leaves the old file or the new one. It isn't cut while somebody
+holds a lock (flock) on ROWS.lock: whoever appends to ROWS does, or is stopped before. Who reads it
+begins anew. A last line without its line feed stays as it is.";

@@ -2,7 +2,7 @@
 
 ghost use Rattle.std.specs.Prelude.{◌≡◌, true, false, IfOk, IfErr, codes, map, option_map, string_bytes};
 ghost use Rattle.clap.specs.Words.{app_of, first_of, one_of, new_app, fault_of, found_of, rows_of as entries_of, rule_of, subcommand_of, subcommand_rows_of, takes};
-ghost use Rattle.wsm_words.specs.Words.{the_app, query_app, required_app, run_app, compile_app, judging_apps, verify_app, explain_app, migrate_app, writing_app, dealing_app, deal_app, rows_app, file_rule, flag_rule, option_rule, rows_rule, AnswersFaults, HasOption, IsJob, IsJobOf, IsMemory, Names, NamesRows, SaysFlag, rows_named};
+ghost use Rattle.wsm_words.specs.Words.{the_app, query_app, required_app, run_app, compile_app, judging_apps, verify_app, explain_app, migrate_app, writing_app, dealing_app, deal_app, rows_app, row_apps, keeping_app, keep_app, file_rule, flag_rule, option_rule, rows_rule, AnswersFaults, HasOption, IsJob, IsJobOf, IsMemory, Names, NamesRows, SaysFlag, rows_named};
 
 use crate::help;
 use crate::version::version_text;
@@ -78,6 +78,19 @@ pub enum Job {
         /// The file of the log; standard input where none is named, or `-`.
         rows: Option<String>,
     },
+    /// To cut rows down to those that a run needs to go on.
+    Keep {
+        /// Whether the file has the bytes of a program, and not the text of a query.
+        program: bool,
+        /// How many lines were taken of what a run over the rows writes; all of them where it isn't said.
+        taken: Option<String>,
+        /// How many bytes of the rows are looked at; all of them where it isn't said.
+        most: Option<String>,
+        /// The file of the query or the program.
+        query: String,
+        /// The file of the rows, which is replaced; standard input where none is named, or `-`.
+        rows: Option<String>,
+    },
 }
 
 /// Why the words ask for nothing.
@@ -115,9 +128,9 @@ impl From<clap::Error> for WordsRefusal {
 /// The job that the words ask for, the program's own name first among them. A subcommand is
 /// required: `run [--program] [--from SOURCE] QUERY [ROWS]`, `compile QUERY OUT`, `migrate PROGRAM OUT`,
 /// `verify [--query] [--from SOURCE] PROGRAM`, `explain [--query] PROGRAM`,
-/// `deal [--keys-of] KEYS PARTS OUT [ROWS]` or `rows [--program] SOURCE QUERY [LOG]`. Words that `clap`
-/// takes are refused for want of memory alone. Others are refused by a fault that `clap` finds in them,
-/// or for want of memory.
+/// `deal [--keys-of] KEYS PARTS OUT [ROWS]`, `rows [--program] SOURCE QUERY [LOG]` or
+/// `keep [--program] [--taken LINES] [--most BYTES] QUERY [ROWS]`. Words that `clap` takes are refused for
+/// want of memory alone. Others are refused by a fault that `clap` finds in them, or for want of memory.
 pub fn command_of(alloc: Global, words: &[&str]) -> Result<Job, WordsRefusal>
     ensures job { IfOk result (IsJobOf (subcommand_of the_app (map (λ s. s.now) words.now))) }
     ensures refused { IfErr result (λ e. takes the_app (map (λ s. s.now) words.now) ≡ true → IsMemory e) }
@@ -131,6 +144,14 @@ pub fn command_of(alloc: Global, words: &[&str]) -> Result<Job, WordsRefusal>
 // The program's command, with its subcommands.
 fn wsm_command<'a>(alloc: Global, version: &'a str) -> Result<Command<'a>, AllocError>
     ensures { IfOk result (λ c. app_of c ≡ the_app) }
+{
+    let wsm = row_commands(alloc, version)?.subcommand(keep_command(alloc)?)?;
+    Ok(wsm)
+}
+
+// The program's command, with all its subcommands but the one that cuts rows.
+fn row_commands<'a>(alloc: Global, version: &'a str) -> Result<Command<'a>, AllocError>
+    ensures { IfOk result (λ c. app_of c ≡ row_apps) }
 {
     let wsm = judging_commands(alloc, version)?
         .subcommand(deal_command(alloc)?)?
@@ -262,6 +283,27 @@ fn rows_command<'a>(alloc: Global) -> Result<Command<'a>, AllocError>
     Ok(rows)
 }
 
+// `keep [--program] [--taken LINES] [--most BYTES] QUERY [ROWS]`
+fn keep_command<'a>(alloc: Global) -> Result<Command<'a>, AllocError>
+    ensures { IfOk result (λ c. app_of c ≡ keep_app) }
+{
+    let keep = keeping_command(alloc)?
+        .arg(file(alloc, "query", "QUERY", help::QUERY_OR_PROGRAM))?
+        .arg(rows_file(alloc, "ROWS", help::KEPT_ROWS))?;
+    Ok(keep)
+}
+
+// `keep [--program] [--taken LINES] [--most BYTES]`
+fn keeping_command<'a>(alloc: Global) -> Result<Command<'a>, AllocError>
+    ensures { IfOk result (λ c. app_of c ≡ keeping_app) }
+{
+    let keep = command(alloc, "keep", help::KEEP, help::KEEP_EXAMPLE)
+        .arg(flag(alloc, "program", help::IS_PROGRAM))?
+        .arg(option(alloc, "taken", "LINES", help::TAKEN))?
+        .arg(option(alloc, "most", "BYTES", help::MOST))?;
+    Ok(keep)
+}
+
 // A command with the texts of its help.
 fn command<'a>(alloc: Global, name: &'a str, about: &'a str, example: &'a str) -> Command<'a>
     ensures { app_of result ≡ new_app name.entry.now }
@@ -335,6 +377,9 @@ fn job_of(alloc: Global, matches: &ArgMatches<'_>) -> Result<Job, WordsRefusal>
     }
     if let Some(inner) = matches.subcommand_matches("rows") {
         return rows_job(alloc, inner);
+    }
+    if let Some(inner) = matches.subcommand_matches("keep") {
+        return keep_job(alloc, inner);
     }
     // This doesn't come: `wsm_command` has no other subcommand, and requires one.
     Err(WordsRefusal::Memory)
@@ -433,6 +478,25 @@ fn rows_job(alloc: Global, inner: &ArgMatches<'_>) -> Result<Job, WordsRefusal>
     Ok(Job::Rows {
         program,
         source,
+        query,
+        rows,
+    })
+}
+
+// The job of the words behind `keep`.
+fn keep_job(alloc: Global, inner: &ArgMatches<'_>) -> Result<Job, WordsRefusal>
+    ensures job { IfOk result (IsJob (codes "keep") (entries_of (found_of inner.now))) }
+    ensures refused { IfErr result IsMemory }
+{
+    let program = flag_of(inner, "program");
+    let taken = option_of(alloc, inner, "taken")?;
+    let most = option_of(alloc, inner, "most")?;
+    let query = file_of(alloc, inner, "query")?;
+    let rows = rows_in(alloc, inner)?;
+    Ok(Job::Keep {
+        program,
+        taken,
+        most,
         query,
         rows,
     })

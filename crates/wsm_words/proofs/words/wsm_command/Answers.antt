@@ -5,9 +5,5 @@ use Rattle.wsm_words.proofs.words.wsm_command.Goals as goal
 
 pub returns : goal.returns
 returns c =
-    let top = λ (a : App). a.top in
-    let plain = λ (a : App). a.top.is_plain in
-    let deal_is = c.in_ok-deal_command.ensures in
-    let rows_is = c.in_ok-rows_command.ensures in
-    let with_deal = c.in_ok-subcommand.ensures.shape (third_fails _ _ _ _ (ap plain deal_is)) ∙ ap₂ with_subcommand c.in_ok-judging_commands.ensures (ap top deal_is) in
-    c.in_ok-wsm.ensures.shape (third_fails _ _ _ _ (ap plain rows_is)) ∙ ap₂ with_subcommand with_deal (ap top rows_is)
+    let keep_is = c.in_ok-keep_command.ensures in
+    c.in_ok-wsm.ensures.shape (third_fails _ _ _ _ (ap (λ (a : App). a.top.is_plain) keep_is)) ∙ ap₂ with_subcommand c.in_ok-row_commands.ensures (ap (λ (a : App). a.top) keep_is)
