@@ -6,15 +6,17 @@ and struck columns for each pane that is withdrawn. It is drawn from what the pr
 that is refused, and what is written between two such refusals belongs to the row between them. Of the query's text,
 `query_text` tells the clauses and which records WHERE takes.
 """
+import math
 import re
 import subprocess
 from dataclasses import dataclass
-from datetime import date, timedelta
+from datetime import datetime, timezone, tzinfo
 from html import escape
 
 from query_text import Query, value_of
 
-STEP = 36  # points for a row
+STEP = 36  # points for a row, at most
+ROW_TEXT = 13  # and for its text
 LEFT, ABOVE, BELOW, RIGHT = 126, 34, 58, 20
 TITLE_STEP = 17
 WIDTH = 0.62  # of a letter, at most about, in its height
@@ -23,7 +25,7 @@ YEAR = 365 * 86400
 COLORS = {"early": "#b8860b", "on_time": "#1f6fb2", "late": "#c2410c", "final": "#2e7d32"}
 WATERMARK, INK, GREY = "#b3003c", "#222222", "#777777"
 MARKS = ["#7a5195", "#008080", "#8a6d3b", "#555555"]  # of the sources
-WIDEST = 3600  # points
+WIDEST = HIGHEST = 3600  # points
 SPACES = [step * power for power in (10**n for n in range(16)) for step in (1, 2, 5)]  # between two times at the foot
 CLOCK_SPACES = [1, 2, 5, 10, 15, 30, 60, 120, 300, 600, 900, 1800, 3600, 7200, 21600, 43200, 86400]
 
@@ -145,10 +147,16 @@ class Frame:
     scale: float  # points for a unit of time
     space: int  # between two times at the foot
     is_clock: bool  # whether times are seconds, and are shown as hours and minutes
+    zone: tzinfo = timezone.utc  # of these
+
+    def local(self, time):
+        """What a clock of the zone shows, as seconds."""
+        return time + int(datetime.fromtimestamp(time, self.zone).utcoffset().total_seconds())
 
     def text_of(self, time):
         if not self.is_clock:
             return str(time)
+        time = self.local(time)
         seconds = f":{time % 60:02}" if self.space < 60 else ""
         return f"{time // 3600 % 24}:{time // 60 % 60:02}{seconds}"
 
@@ -158,10 +166,10 @@ class Frame:
             return None
         if time < YEAR:
             return f"day {time // 86400}"
-        return (date(1970, 1, 1) + timedelta(days=time // 86400)).isoformat()
+        return datetime.fromtimestamp(time, self.zone).date().isoformat()
 
 
-def frame_of(history, is_clock):
+def frame_of(history, is_clock, zone=timezone.utc):
     """A frame in which the labels of the panes of one row have room beside one another."""
     times = [record.time for record in history.records if record.fate in ("admitted", "late")]
     for pane in history.panes + history.withdrawn:
@@ -181,7 +189,9 @@ def frame_of(history, is_clock):
     scale = min(scale, WIDEST / (last - first))
     widest = 44 if is_clock else 14 + 6 * len(str(last))
     space = next((space for space in (CLOCK_SPACES if is_clock else SPACES) if space * scale >= widest), last - first)
-    return Frame(first - first % space, last, scale, space, is_clock)
+    frame = Frame(first, last, scale, space, is_clock, zone)
+    frame.first -= (frame.local(first) if is_clock else first) % space
+    return frame
 
 
 # ---- labels
@@ -227,7 +237,8 @@ class Picture:
         self.width = max(self.across(frame.last) + RIGHT, self.across(last) + length_of(frame.text_of(last), 10) / 2 + 4)
         self.title = [line for clauses in title for line in wrapped(clauses, self.width - 24)]
         self.above = ABOVE + TITLE_STEP * len(self.title)
-        self.floor = self.above + (len(history.rows) + 1) * STEP
+        self.step = min(STEP, HIGHEST / (len(history.rows) + 1))
+        self.floor = self.above + (len(history.rows) + 1) * self.step
         self.height = self.floor + BELOW
         self.parts, self.labels = [], Labels(self.width, self.height)
 
@@ -240,8 +251,8 @@ class Picture:
 
     def up(self, row):
         if row not in self.lines:  # before the first row, or behind the last one
-            return self.floor - (len(self.lines) + 0.7 if row else 0) * STEP
-        return self.floor - self.lines[row] * STEP
+            return self.floor - (len(self.lines) + 0.7 if row else 0) * self.step
+        return self.floor - self.lines[row] * self.step
 
     def add(self, tag, text=None, **attributes):
         words = " ".join(f'{name.replace("_", "-")}="{short(value)}"' for name, value in attributes.items())
@@ -252,10 +263,12 @@ class Picture:
 
     def label(self, pieces, places, **more):
         """A label of pieces, each a text with the attributes of its own, at the first free of some places of its left
-        end and its base line."""
+        end and its base line. Where rows stand closer together and none is free, it is left out."""
         width = sum(length_of(text, own.get("font_size", 11), "font_weight" in own) for text, own in pieces)
         height = max(own.get("font_size", 11) for _, own in pieces) + 1
         tops = [(x - width if anchor == "end" else x - width / 2 if anchor == "middle" else x, y - height + 2.5) for x, y, anchor in places]
+        if self.step < STEP and min(self.labels.over(place, width, height) for place in tops):
+            return
         x, y = self.labels.put(tops, width, height)
         _, base, anchor = places[tops.index((x, y))]
         at = x + width if anchor == "end" else x + width / 2 if anchor == "middle" else x
@@ -277,7 +290,7 @@ class Picture:
         self.add("line", x1=self.left, y1=self.floor, x2=right, y2=self.floor, stroke=GREY, stroke_width=1)
         self.write("event time", right, self.floor + 46, anchor="end", color=GREY)
         self.write("rows, as they arrive, upwards", 12, self.floor + 46, color=GREY)
-        for number in self.history.rows:
+        for number in [*self.history.rows][::math.ceil(ROW_TEXT / self.step)]:
             text = escape(self.row_text(number))
             self.write(text, 12, self.up(number) + 3, size=10, color=GREY, font_family="monospace")
             self.labels.take(12, self.up(number) - 7, 6.1 * len(self.row_text(number)), 12)
@@ -445,7 +458,7 @@ def behind_of(record, query):
     return record.time - record.time % query.size + query.size if query.from_window else record.time
 
 
-def drawn(program, path, rows, key=None, frame=None, is_clock=False, is_measured=False):
+def drawn(program, path, rows, key=None, frame=None, is_clock=False, is_measured=False, zone=timezone.utc):
     """The picture of a key in a run of the query at a path. Where it is measured, it shows how late late records are."""
     lines_of(program, path, [])  # a query that is refused is told as the program tells it
     text = path.read_text()
@@ -456,7 +469,7 @@ def drawn(program, path, rows, key=None, frame=None, is_clock=False, is_measured
     if key not in query.keys:
         raise Refused(f"{key} is no key of the query; its keys are {', '.join(query.keys[:20])}")
     history = history_of(program, path, query, rows, key)
-    frame = frame or frame_of(history, is_clock)
+    frame = frame or frame_of(history, is_clock, zone)
     title = title_of(text)
     if len(query.keys) > 1:
         title[0] = f"{key}:   {title[0]}"

@@ -10,7 +10,7 @@ from typing import Callable, Dict, List, Optional, Tuple
 
 sys.dont_write_bytecode = True
 
-from row_lines import BAD_WORDS, Ended
+from row_lines import zone_of
 
 MONTHS = "jan feb mar apr may jun jul aug sep oct nov dec".split()
 DIRECTIVES = {
@@ -68,13 +68,7 @@ class Zone:
     """The clock of a zone, and how often it showed a time twice."""
 
     def __init__(self, name: Optional[str]):
-        self.name, self.folds, self.zone = name, 0, timezone.utc
-        if name not in (None, "UTC"):
-            from zoneinfo import ZoneInfo
-            try:
-                self.zone = ZoneInfo(name)
-            except Exception:
-                raise Ended(f"{name} is no zone of /usr/share/zoneinfo", BAD_WORDS) from None
+        self.name, self.folds, self.zone = name, 0, zone_of(name or "UTC")
 
     def seconds(self, shown: datetime) -> Optional[int]:
         """The first instant at which the clock shows this."""

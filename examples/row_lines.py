@@ -8,6 +8,7 @@ import select
 import signal
 import sys
 import time
+from datetime import timezone
 
 sys.dont_write_bytecode = True
 
@@ -158,6 +159,17 @@ def time_of(cells):
         return None
     figures = cells[2].lstrip(b"0")
     return int(figures or b"0") if len(figures) < 20 else 1 << 63
+
+
+def zone_of(name):
+    """The zone of a name, by the system's table of zones."""
+    if name == "UTC":
+        return timezone.utc
+    from zoneinfo import ZoneInfo
+    try:
+        return ZoneInfo(name)
+    except (OSError, ValueError, KeyError):
+        raise Ended(f"{name} is no zone that this system knows: Europe/Berlin is one, and UTC", BAD_WORDS) from None
 
 
 def lock_of(path):
