@@ -24,40 +24,30 @@ pub fn done<R: Files<File = File> + AllocGlobal + Input + Print + Eprint + Clock
     match job {
         Job::Run {
             program,
-            from: Some(source),
+            from,
             query,
             rows,
-        } => {
-            let query = accepted(rt, *program, query)?;
-            run_from(rt, query, source, rows.as_ref(), is_looked_at)
-        }
-        Job::Run {
-            program,
-            from: None,
+        } => run(
+            rt,
+            *program,
+            from.as_ref(),
             query,
-            rows,
-        } => Ok(run(rt, *program, query, rows.as_ref())?),
+            rows.as_ref(),
+            is_looked_at,
+        ),
         Job::Rows {
             program,
             source,
             query,
             rows,
-        } => {
-            let query = accepted(rt, *program, query)?;
-            rows_from(rt, &query, source, rows.as_ref(), is_looked_at)
-        }
+        } => rows_by(rt, *program, source, query, rows.as_ref(), is_looked_at),
         Job::Compile { query, out } => Ok(compile(rt, query, out)?),
         Job::Migrate { program, out } => Ok(migrated(rt, program, out)?),
         Job::Verify {
             query,
-            from: Some(source),
+            from,
             program,
-        } => judged_with(rt, *query, source, program),
-        Job::Verify {
-            query,
-            from: None,
-            program,
-        } => Ok(judged(rt, *query, program, false)?),
+        } => verify(rt, *query, from.as_ref(), program),
         Job::Explain { query, program } => Ok(judged(rt, *query, program, true)?),
         Job::Deal {
             keys_of,
@@ -83,8 +73,52 @@ pub fn done<R: Files<File = File> + AllocGlobal + Input + Print + Eprint + Clock
     }
 }
 
+// Runs a query or a program over rows, or over a log by a source.
+fn run<R: Files<File = File> + AllocGlobal + Input + Print + Eprint + Clock>(
+    rt: &R,
+    program: bool,
+    source: Option<&String>,
+    query: &String,
+    rows: Option<&String>,
+    is_looked_at: bool,
+) -> Result<bool, Stop> {
+    match source {
+        None => Ok(run_rows(rt, program, query, rows)?),
+        Some(source) => {
+            let query = accepted(rt, program, query)?;
+            run_from(rt, query, source, rows, is_looked_at)
+        }
+    }
+}
+
+// Writes the rows of a log's lines by a source, for a query or a program.
+fn rows_by<R: Files<File = File> + AllocGlobal + Input + Print + Eprint + Clock>(
+    rt: &R,
+    program: bool,
+    source: &String,
+    query: &String,
+    log: Option<&String>,
+    is_looked_at: bool,
+) -> Result<bool, Stop> {
+    let query = accepted(rt, program, query)?;
+    rows_from(rt, &query, source, log, is_looked_at)
+}
+
+// Judges a program, or a query's, and a source that is to fit it.
+fn verify<R: Files + AllocGlobal + Print>(
+    rt: &R,
+    query: bool,
+    source: Option<&String>,
+    program: &String,
+) -> Result<bool, Stop> {
+    match source {
+        None => Ok(judged(rt, query, program, false)?),
+        Some(source) => judged_with(rt, query, source, program),
+    }
+}
+
 // Runs a query or a program over a file of rows, or over standard input.
-fn run<R: Files + AllocGlobal + Input + Print>(
+fn run_rows<R: Files + AllocGlobal + Input + Print>(
     rt: &R,
     program: bool,
     query: &String,
