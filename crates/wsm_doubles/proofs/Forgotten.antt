@@ -1,20 +1,30 @@
 -- What can't count at a watermark can't count at a later one: what is kept of it is of no account.
-use Rattle.std.proofs.Common.{◌≡◌, ℕ, Bool, true, false, ◌&&◌, ◌||◌, cond, not, List, [], ◌∷◌, ℤ, ◌≤ℤ◌, Result, Ok, Err, refl, sym, ap, ◌∙◌, arith}
+use Rattle.std.proofs.Common.{◌≡◌, ℕ, Bool, true, false, ◌&&◌, ◌||◌, cond, not, List, [], ◌∷◌, ◌++◌, ℤ, ◌≤ℤ◌, refl, sym, ap, ◌∙◌, arith}
 use Rattle.std.proofs.Math.Bool.{and-false}
 use Rattle.std.proofs.lemmas.Bool.{true≢false}
 use Rattle.std.proofs.lemmas.Int.{ints}
-use Rattle.std.specs.Prelude.{OnOk, bytes_eq, filter}
+use Rattle.std.specs.Prelude.{bytes_eq, filter}
 use Rattle.wsm_windows.specs.declared.window.Shape.{Shape}
 use Rattle.wsm_admission.specs.declared.clock.Clock.{Clock}
 use Rattle.wsm_admission.specs.Clock.{is_late}
 use Rattle.wsm_semantics.proofs.Deliveries.{prompt_sooner}
-use Rattle.wsm_semantics.proofs.Each.{all-any, and_of, each_fails, filter-each, filter-filter, list_any-filter, list_any-none}
+use Rattle.wsm_semantics.proofs.Each.{all-any, and_of, each_fails, filter-append, filter-each, filter-filter, list_any-append, list_any-filter, list_any-none}
 use Rattle.wsm_semantics.proofs.Lists.{all-each}
 use Rattle.wsm_doubles.specs.Memory.{Kept, Memory, Recalls, is_known, knows, least_room, live, may_count, remembered}
 
 not_so : (b : Bool) → not b ≡ true → b ≡ false
 not_so true h = absurd (true≢false (sym h))
 not_so false h = refl
+
+or_turned : (a b : Bool) → (a || (b || false)) ≡ (b || a)
+or_turned true true = refl
+or_turned true false = refl
+or_turned false true = refl
+or_turned false false = refl
+
+or_nothing : (a : Bool) → (a || false) ≡ a
+or_nothing true = refl
+or_nothing false = refl
 
 at_most : (w : ℤ) → w ≤ℤ w
 at_most w = omega (arith, ints)
@@ -25,10 +35,15 @@ in_turn u v w h k = omega (arith, ints)
 from_then : (w mark later : ℤ) → w ≡ mark → mark ≤ℤ later → w ≤ℤ later
 from_then w mark later same rises = omega (arith, ints)
 
--- a lemma for each test, of a call that may fail
-each_ok : {A E : Type 0} {X : Type 0} (r : Result A E) (N M : X → Type 0) (P : Type 0) → ((x : X) → N x → OnOk r (M x)) → (((x : X) → N x → M x) → P) → OnOk r P
-each_ok (Ok a) N M P h f = f h
-each_ok (Err e) N M P h f = tt
+-- behind the others an entry counts as in front of them
+put_last : (p : List ℕ × ℤ → Bool) (j : List ℕ) (k : List ℕ × ℤ) (xs : Memory) → knows j (filter p (xs ++ k ∷ [])) ≡ knows j (filter p (k ∷ xs))
+put_last p j k xs =
+    ap (knows j) (filter-append p xs (k ∷ []))
+    ∙ list_any-append (λ e. bytes_eq j e.0) (filter p xs) (filter p (k ∷ []))
+    ∙ (elim (p k) as (λ b. (knows j (filter p xs) || knows j (cond b (k ∷ []) [])) ≡ knows j (cond b (k ∷ filter p xs) (filter p xs))) [
+      | true ↦ or_turned (knows j (filter p xs)) (bytes_eq j k.0)
+      | false ↦ or_nothing (knows j (filter p xs))
+    ])
 
 module _ (c : Clock) (shape : Shape) where
   counts_before : (v w : ℤ) → v ≤ℤ w → (k : List ℕ × ℤ) → may_count c shape w k ≡ true → may_count c shape v k ≡ true
@@ -71,21 +86,18 @@ module _ (c : Clock) (shape : Shape) where
   in_front i false k xs ys same = same
 
   -- a record that passes is taken note of, behind a call that drops what can't count
-  pub noted : {A E : Type 0} (result : Result A E) (mark w : ℤ) (old mid new : Kept) (memory : Memory) (i : List ℕ) (time u : ℤ) → w ≡ mark → u ≡ time → Recalls c shape mark old memory
-      → ((later : ℤ) → w ≤ℤ later → live c shape later mid.entries ≡ live c shape later old.entries)
-      → is_known c shape mark i old ≡ false
-      → ((test : ℤ → Bool) → knows i (filter (λ k. test k.1) mid.entries) ≡ false → OnOk result ((j : List ℕ) → knows j (filter (λ k. test k.1) new.entries) ≡ knows j (filter (λ k. test k.1) ((i, u) ∷ mid.entries))))
-      → OnOk result (Recalls c shape mark new (remembered c shape mark i time memory))
-  noted result mark w old mid new memory i time u then at r stays unknown kept =
-      let same : (later : ℤ) → mark ≤ℤ later → live c shape later mid.entries ≡ live c shape later old.entries = λ later rises. stays later (from_then w mark later then rises) in
-      each_ok result (λ (test : ℤ → Bool). knows i (filter (λ k. test k.1) mid.entries) ≡ false)
-      (λ (test : ℤ → Bool). (j : List ℕ) → knows j (filter (λ k. test k.1) new.entries) ≡ knows j (filter (λ k. test k.1) ((i, u) ∷ mid.entries)))
-      (Recalls c shape mark new (remembered c shape mark i time memory)) kept
-      (λ known. record {
+  pub noted : (mark w : ℤ) (old new : Kept) (mid : Memory) (memory : Memory) (i : List ℕ) (time u : ℤ) → w ≡ mark → u ≡ time → Recalls c shape mark old memory
+      → ((later : ℤ) → w ≤ℤ later → live c shape later mid ≡ live c shape later old.entries)
+      → new.entries ≡ mid ++ (i, u) ∷ []
+      → Recalls c shape mark new (remembered c shape mark i time memory)
+  noted mark w old new mid memory i time u then at r stays added =
+      let same : (later : ℤ) → mark ≤ℤ later → live c shape later mid ≡ live c shape later old.entries = λ later rises. stays later (from_then w mark later then rises) in
+      record {
         alike = λ later rises j.
-            known (λ (t : ℤ). not (is_late c shape later t)) (ap (knows i) (same later rises) ∙ unknown_later mark later rises i old.entries unknown) j
-            ∙ ap (λ (t : ℤ). knows j (live c shape later ((i, t) ∷ mid.entries))) at
-            ∙ in_front j (may_count c shape later (i, time)) (i, time) (live c shape later mid.entries) (live c shape later memory) (ap (knows j) (same later rises) ∙ r.alike later rises j)
+            ap (λ (m : Memory). knows j (live c shape later m)) added
+            ∙ put_last (may_count c shape later) j (i, u) mid
+            ∙ ap (λ (t : ℤ). knows j (live c shape later ((i, t) ∷ mid))) at
+            ∙ in_front j (may_count c shape later (i, time)) (i, time) (live c shape later mid) (live c shape later memory) (ap (knows j) (same later rises) ∙ r.alike later rises j)
             ∙ ap (knows j) (sym (live-live mark later rises ((i, time) ∷ memory)));
         prompt = live-live mark mark (at_most mark) ((i, time) ∷ memory);
-      })
+      }

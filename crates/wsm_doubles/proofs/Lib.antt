@@ -1,5 +1,8 @@
 mod LastEnds
-mod Entries
+pub mod Linked
+pub mod Left
+pub mod Spots
+pub mod Walk
 pub mod Forgotten
 mod Numbers
 mod Followed

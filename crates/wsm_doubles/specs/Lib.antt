@@ -1,3 +1,5 @@
+pub mod Chains
+pub mod Entries
 pub mod Memory
 pub mod MemoryRows
 pub mod Late

@@ -1,12 +1,12 @@
 //! The identifiers that are remembered.
 
-ghost use Rattle.std.specs.Prelude.{◌≡◌, ◌+◌, ◌*◌, ◌<◌, ◌≤◌, max, ℕ, ℤ, Bool, List, [], ◌∷◌, ◌≤ℤ◌, false, filter, length, not, OnErr, OnOk};
+ghost use Rattle.std.specs.Prelude.{◌≡◌, ◌*◌, ◌<◌, ◌≤◌, max, ℕ, ℤ, [], ◌≤ℤ◌, false, true, not, length, Ok, IfOk, OnErr, OnOk};
 ghost use Rattle.wsm_windows.specs.Windows.{IsShape};
-ghost use Rattle.wsm_admission.specs.Clock.{is_late};
 ghost use Rattle.wsm_doubles.specs.Memory.{Kept, Memory, Recalls, IsSmall, is_known, knows, least_room, live, remembered};
 
+use crate::hash::hash_of;
 use crate::late::Moment;
-use indexmap::IndexMap;
+use crate::table::Table;
 use std::alloc::{AllocError, Global};
 use std::marker::Model;
 use wsm_admission::Clock;
@@ -20,22 +20,21 @@ const LEAST_ROOM: usize = 4096;
 /// identifiers as were left the last time, and 4,096 at least.
 #[derive(Drop)]
 pub struct Doubles {
-    times: IndexMap<Vec<u8>, i64>,
+    alloc: Global,
+    table: Table,
     // With as many identifiers those that can't count any more are dropped.
     room: usize,
 }
 
 impl Model for Doubles {
-    ghost use Rattle.std.specs.List.{IsDistinct};
-    ghost use Rattle.std.specs.Prelude.{◌≤◌, bytes_eq, length, map};
-    ghost use Rattle.wsm_doubles.specs.Memory.{Kept, least_room};
+    ghost use Rattle.std.specs.Prelude.{◌≤◌, length};
+    ghost use Rattle.wsm_doubles.specs.Memory.{Kept};
 
     ghost Value = { Kept };
 
-    ghost view = { λ a. record { entries = map (λ e. (e.0.items, e.1)) a.times.entries; room = a.room } };
+    ghost view = { λ a. record { entries = a.table.entries; room = a.room } };
 
-    ghost invariant = { λ a. IsDistinct (λ x y. bytes_eq x.items y.items) (map (λ e. e.0) a.times.entries)
-        × (length a.times.entries ≤ a.room) };
+    ghost invariant = { λ a. length a.table.entries ≤ a.room };
 }
 
 impl Doubles {
@@ -44,7 +43,8 @@ impl Doubles {
         ensures { result ≡ record { entries = []; room = least_room } }
     {
         Doubles {
-            times: IndexMap::new(alloc),
+            alloc,
+            table: Table::new(alloc),
             room: LEAST_ROOM,
         }
     }
@@ -53,103 +53,97 @@ impl Doubles {
     pub fn len(&self) -> usize
         ensures { result ≡ length self.now.entries }
     {
-        self.times.len()
+        self.table.len()
     }
 
-    /// Whether a record with this identifier is a double at a watermark: one with the identifier passed,
-    /// and a record of its time isn't late there.
-    pub fn is_double(&self, identifier: &[u8], clock: &Clock, shape: Shape, mark: i64) -> bool
-        requires { IsShape shape }
-        ensures known { result ≡ is_known clock.now shape mark identifier.now self.now }
-        ensures recalled { (memory : Memory) → Recalls clock.now shape mark self.now memory → result ≡ knows identifier.now memory }
-    {
-        let clock = *clock;
-        let moment = Moment { clock, shape, mark };
-        match self.times.get(identifier) {
-            Some(time) => !moment.is_late(*time),
-            None => false,
-        }
-    }
-
-    /// Takes note of a record that passes at a watermark, where it is no double. Its time is in units of
-    /// event time, and may be one that no record may have.
+    /// Whether a record with an identifier passes at a watermark. It does unless it is a double: one with the
+    /// identifier passed, and a record of its time isn't late there. Takes note of a record that passes. Its
+    /// time is in units of event time, and may be one that no record may have.
     ///
     /// # Errors
     ///
     /// Memory was refused. The same identifiers are known as before, at this watermark and at each later
     /// one.
-    pub fn note(
+    pub fn pass(
         &mut self,
         identifier: &[u8],
         time: i64,
         clock: &Clock,
         shape: Shape,
         mark: i64,
-    ) -> Result<(), AllocError>
-        requires shape { IsShape shape }
-        requires new { is_known clock.now shape mark identifier.now self.old ≡ false }
+    ) -> Result<bool, AllocError>
+        requires { IsShape shape }
+        ensures known { IfOk result (λ passes. passes ≡ not (is_known clock.now shape mark identifier.now self.old)) }
+        ensures recalled { (memory : Memory) → Recalls clock.now shape mark self.old memory → IfOk result (λ passes. passes ≡ not (knows identifier.now memory)) }
+        ensures double { result ≡ Ok false → self.new ≡ self.old }
         ensures noted { (memory : Memory) → Recalls clock.now shape mark self.old memory
-            → OnOk result (Recalls clock.now shape mark self.new (remembered clock.now shape mark identifier.now time memory)) }
+            → result ≡ Ok true → Recalls clock.now shape mark self.new (remembered clock.now shape mark identifier.now time memory) }
         ensures unchanged { (memory : Memory) → Recalls clock.now shape mark self.old memory → OnErr result (Recalls clock.now shape mark self.new memory) }
         ensures small { (most : ℕ) → length (live clock.now shape mark self.old.entries) ≤ most → IsSmall most self.old → IsSmall most self.new }
     {
-        self.make_room(clock, shape, mark);
-        self.keep(identifier, time)
-    }
-
-    // Has room for one more: where there is none, drops what can't count any more at a watermark.
-    #[inline(always)]
-    fn make_room(&mut self, clock: &Clock, shape: Shape, mark: i64)
-        requires { IsShape shape }
-        ensures live { (later : ℤ) → mark ≤ℤ later → live clock.now shape later self.new.entries ≡ live clock.now shape later self.old.entries }
-        ensures room { length self.new.entries < self.new.room }
-        ensures small { (most : ℕ) → length (live clock.now shape mark self.old.entries) ≤ most
-            → self.old.room ≤ max (2 * most) least_room → self.new.room ≤ max (2 * most) least_room }
-    {
-        if self.times.len() >= self.room {
-            self.forget(clock, shape, mark);
-        }
-    }
-
-    // Drops what can't count any more at a watermark.
-    #[cold]
-    #[inline(never)]
-    fn forget(&mut self, clock: &Clock, shape: Shape, mark: i64)
-        requires { IsShape shape }
-        ensures entries { self.new.entries ≡ live clock.now shape mark self.old.entries }
-        ensures room { self.new.room ≡ max (2 * length self.new.entries) least_room }
-    {
         let clock = *clock;
-        drop_late(&mut self.times, Moment { clock, shape, mark });
-        self.room = (2 * self.times.len()).max(LEAST_ROOM);
-        self.times.shrink_to(self.room);
-    }
-
-    // Keeps an identifier with a time. By each test of times that passes none which it had, it is known then
-    // where the new time passes, and each other one as before.
-    #[inline(always)]
-    fn keep(&mut self, identifier: &[u8], time: i64) -> Result<(), AllocError>
-        requires { length self.old.entries < self.old.room }
-        ensures kept { (test : ℤ → Bool) → knows identifier.now (filter (λ k. test k.1) self.old.entries) ≡ false
-            → OnOk result ((i : List ℕ) → knows i (filter (λ k. test k.1) self.new.entries)
-            ≡ knows i (filter (λ k. test k.1) ((identifier.now, time) ∷ self.old.entries))) }
-        ensures room { self.new.room ≡ self.old.room }
-        ensures within { length self.new.entries ≤ self.new.room }
-        ensures unchanged { OnErr result (self.new ≡ self.old) }
-    {
-        let text = identifier.to_vec(*self.times.allocator())?;
-        self.times.insert(text, time)?;
-        Ok(())
+        let moment = Moment { clock, shape, mark };
+        let hash = hash_of(identifier);
+        if self.table.knows(identifier, hash, moment) {
+            return Ok(false);
+        }
+        make_room(self.alloc, &mut self.table, &mut self.room, moment)?;
+        self.table.push(identifier, hash, time)?;
+        Ok(true)
     }
 }
 
-// Drops the entries whose time is late.
-fn drop_late(times: &mut IndexMap<Vec<u8>, i64>, moment: Moment)
-    ensures { times.new.entries ≡ filter (λ e. not (is_late moment.clock moment.shape moment.mark e.1)) times.old.entries }
+// Has room for one more: where there is none, drops what can't count any more at a moment.
+#[inline(always)]
+fn make_room(
+    alloc: Global,
+    table: &mut Table,
+    room: &mut usize,
+    moment: Moment,
+) -> Result<(), AllocError>
+    requires { length table.old.entries ≤ room.old }
+    ensures live { (later : ℤ) → moment.mark ≤ℤ later → live moment.clock moment.shape later table.new.entries ≡ live moment.clock moment.shape later table.old.entries }
+    ensures room { OnOk result (length table.new.entries < room.new) }
+    ensures within { length table.new.entries ≤ room.new }
+    ensures buckets { OnOk result (0 < table.new.buckets) }
+    ensures small { (most : ℕ) → length (live moment.clock moment.shape moment.mark table.old.entries) ≤ most
+        → room.old ≤ max (2 * most) least_room → room.new ≤ max (2 * most) least_room }
 {
-    times.retain(
-        |_: &Vec<u8>, time: &mut i64| -> bool
-            ensures { (result ≡ not (is_late moment.clock moment.shape moment.mark time.old)) × (time.new ≡ time.old) }
-        { !moment.is_late(*time) },
-    );
+    if table.len() >= *room || table.buckets() == 0 {
+        forget(alloc, table, room, moment)?;
+    }
+    Ok(())
+}
+
+// Drops what can't count any more at a moment, and has room for as many again as are left.
+#[cold]
+#[inline(never)]
+fn forget(
+    alloc: Global,
+    table: &mut Table,
+    room: &mut usize,
+    moment: Moment,
+) -> Result<(), AllocError>
+    ensures entries { OnOk result (table.new.entries ≡ live moment.clock moment.shape moment.mark table.old.entries) }
+    ensures room { OnOk result (room.new ≡ max (2 * length table.new.entries) least_room) }
+    ensures buckets { OnOk result (0 < table.new.buckets) }
+    ensures table_unchanged { OnErr result (table.new ≡ table.old) }
+    ensures room_unchanged { OnErr result (room.new ≡ room.old) }
+{
+    let kept = table.live(alloc, buckets_for(table.len())?, moment)?;
+    let Some(twice) = kept.len().checked_mul(2) else {
+        return Err(AllocError);
+    };
+    *room = twice.max(LEAST_ROOM);
+    *table = kept;
+    Ok(())
+}
+
+// How many buckets there are for as many again: a power of two.
+fn buckets_for(len: usize) -> Result<usize, AllocError>
+    ensures { IfOk result (λ n. 0 < n) }
+{
+    let twice = len.checked_mul(2).ok_or(AllocError)?;
+    let buckets = twice.max(LEAST_ROOM).checked_next_power_of_two();
+    buckets.ok_or(AllocError)
 }

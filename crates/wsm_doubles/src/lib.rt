@@ -14,17 +14,20 @@
 //! let clock = Clock { start: 0, skew: 100, lateness: 10, from_window: false, records: 1000 };
 //! let shape = Shape::Fixed(60);
 //! let mut doubles = Doubles::new(alloc);
-//! assert!(rt; !doubles.is_double(b"order 17", &clock, shape, 0));
-//! doubles.note(b"order 17", 49, &clock, shape, 0)?;
-//! assert!(rt; doubles.is_double(b"order 17", &clock, shape, 59));
-//! assert!(rt; !doubles.is_double(b"order 17", &clock, shape, 60)); // 49 + 10 is before 60
+//! assert!(rt; doubles.pass(b"order 17", 49, &clock, shape, 0)?);
+//! assert!(rt; !doubles.pass(b"order 17", 49, &clock, shape, 59)?);
+//! assert!(rt; doubles.pass(b"order 17", 49, &clock, shape, 60)?); // 49 + 10 is before 60
 //! ```
 #![tactic(auto)]
 
 pub use doubles::Doubles;
 
+mod chains;
 mod doubles;
+mod entries;
+mod hash;
 mod late;
 pub mod laws;
+mod table;
 #[cfg(test)]
 mod tests;

@@ -20,15 +20,15 @@ fn few_are_kept(rt: HostRuntime) -> Result<(), Fail> {
     let mut doubles = Doubles::new(rt.alloc());
     for number in 0..20_000u64 {
         let text = format!(in rt.alloc(); "order {number}")?;
-        let identifier = text.as_bytes();
         let time = number as i64;
-        if !doubles.is_double(identifier, &CLOCK, shape, time) {
-            doubles.note(identifier, time, &CLOCK, shape, time)?;
-        }
+        let passes = doubles.pass(text.as_bytes(), time, &CLOCK, shape, time)?;
+        assert!(rt; passes);
     }
     assert!(rt; doubles.len() <= 4096);
     let last = b"order 19999";
-    assert!(rt; doubles.is_double(last, &CLOCK, shape, 20_009));
-    assert!(rt; !doubles.is_double(last, &CLOCK, shape, 20_010));
+    let known = doubles.pass(last, 19_999, &CLOCK, shape, 20_009)?;
+    assert!(rt; !known);
+    let forgotten = doubles.pass(last, 19_999, &CLOCK, shape, 20_010)?;
+    assert!(rt; forgotten);
     Ok(())
 }

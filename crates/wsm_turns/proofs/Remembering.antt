@@ -1,16 +1,18 @@
 -- What is remembered as the watermark rises.
-use Rattle.std.proofs.Common.{◌≡◌, ◌∙◌, ℕ, List, [], ◌∷◌, ℤ, pos, ◌≤ℤ◌, sym, subst, arith}
+use Rattle.std.proofs.Common.{◌≡◌, ◌∙◌, ℕ, Bool, true, false, not, List, [], ◌∷◌, ℤ, pos, ◌≤ℤ◌, Result, Ok, Err, Some, refl, sym, ap, subst, arith}
+use Rattle.std.proofs.lemmas.Bool.{true≢false}
 use Rattle.std.proofs.lemmas.Int.{ints}
+use Rattle.std.specs.Prelude.{IfOk}
 use Rattle.wsm_windows.specs.declared.window.Shape.{Shape}
 use Rattle.wsm_admission.specs.declared.clock.Clock.{Clock}
 use Rattle.wsm_admission.proofs.SourceMarks.{watermark_rises}
 use Rattle.wsm_record.specs.Event.{Event}
-use Rattle.wsm_doubles.specs.Memory.{Kept, Memory, Recalls, live, remembered}
+use Rattle.wsm_doubles.specs.Memory.{Kept, Memory, Recalls, knows, live, remembered}
 use Rattle.wsm_doubles.proofs.Forgotten.{live-live, recalls_on}
 use Rattle.wsm_turns.specs.declared.identifiers.Identifiers.{Identifiers}
 use Rattle.wsm_turns.specs.Numbered.{Numbered}
 use Rattle.wsm_turns.specs.Turns.{Setting, fed_with, watermark}
-use Rattle.wsm_turns.specs.Known.{Remembers}
+use Rattle.wsm_turns.specs.Known.{Passes, Remembers}
 
 at_most : (a : ℤ) → a ≤ℤ a
 at_most a = omega (arith, ints)
@@ -55,3 +57,25 @@ remembers_noted w mark m later r new i time t memory at is rises h clock shape n
       shape = shape ∙ h.shape;
       recalls = noted_on w.clock w.shape mark later new.doubles i (pos time) memory rises by_time;
     }
+
+not_not : (a b : Bool) → a ≡ not b → b ≡ not a
+not_not a true is = ap not (sym is)
+not_not a false is = ap not (sym is)
+
+-- a record comes with its identifier: by what is answered of it
+pub passes_of : {E : Type 0} (w : Setting) (mark : ℤ) (old new : Identifiers) (i : List ℕ) (time : ℕ) (memory : Memory) (r : Result Bool E) → Remembers w mark old memory
+    → IfOk r (λ passes. passes ≡ not (knows i memory))
+    → (r ≡ Ok false → new ≡ old)
+    → (r ≡ Ok true → (later : ℤ) → mark ≤ℤ later → Remembers w later new (live w.clock w.shape later ((i, pos time) ∷ memory)))
+    → IfOk r (Passes w mark new (Some i) time memory)
+passes_of w mark old new i time memory (Ok true) h answer double noted = record {
+  answer = not_not true (knows i memory) answer;
+  double = λ is. absurd (true≢false is);
+  noted = λ is. noted refl;
+}
+passes_of w mark old new i time memory (Ok false) h answer double noted = record {
+  answer = not_not false (knows i memory) answer;
+  double = λ is. subst (λ (r : Identifiers). Remembers w mark r memory) (sym (double refl)) h;
+  noted = λ is. absurd (true≢false (sym is));
+}
+passes_of w mark old new i time memory (Err e) h answer double noted = tt

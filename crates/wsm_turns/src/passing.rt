@@ -35,11 +35,7 @@ impl Identifiers {
         ensures { (w : Setting) (memory : Memory) → Remembers w mark self.old memory → IfOk result (Passes w mark self.new (Some identifier.now) time memory) }
     {
         let clock = self.clock;
-        if self.doubles.is_double(identifier, &clock, self.shape, mark) {
-            return Ok(false);
-        }
         self.doubles
-            .note(identifier, time as i64, &clock, self.shape, mark)?;
-        Ok(true)
+            .pass(identifier, time as i64, &clock, self.shape, mark)
     }
 }

@@ -1,0 +1,134 @@
+//! Identifiers that are found by their hashes.
+
+ghost use Rattle.std.specs.Prelude.{◌≡◌, ◌<◌, ◌∷◌, ◌++◌, [], length, slice_index_or, IfOk, OnErr, OnOk};
+ghost use Rattle.wsm_doubles.specs.Entries.{Tabled, counts_as, hash_of, no_entry};
+ghost use Rattle.wsm_doubles.specs.Memory.{knows, live};
+
+use crate::chains::Chains;
+use crate::entries::Entries;
+use crate::late::Moment;
+use std::alloc::{AllocError, Global};
+use std::marker::Model;
+
+// Identifiers with the times of their records, in the order in which they came.
+#[derive(Drop)]
+pub(crate) struct Table {
+    entries: Entries,
+    // The hash of each, by which it is found.
+    chains: Chains,
+}
+
+impl Model for Table {
+    ghost use Rattle.std.specs.Prelude.{◌≡◌, []};
+    ghost use Rattle.wsm_doubles.specs.Entries.{Tabled, hashes_in};
+
+    ghost Value = { Tabled };
+
+    ghost view = { λ t. record { entries = t.entries; buckets = t.chains.buckets } };
+
+    ghost invariant = { λ t. (t.chains.hashes ≡ hashes_in t.entries) × (t.chains.buckets ≡ 0 → t.entries ≡ []) };
+}
+
+impl Table {
+    // No identifier and no bucket, which takes no memory.
+    pub(crate) fn new(alloc: Global) -> Table
+        ensures { result ≡ record { entries = []; buckets = 0 } }
+    {
+        Table {
+            entries: Entries::new(alloc),
+            chains: Chains::new(alloc),
+        }
+    }
+
+    // No identifier, with so many buckets.
+    pub(crate) fn with_buckets(alloc: Global, buckets: usize) -> Result<Table, AllocError>
+        ensures { IfOk result (λ t. t ≡ record { entries = []; buckets = buckets }) }
+    {
+        Ok(Table {
+            entries: Entries::new(alloc),
+            chains: Chains::with_buckets(alloc, buckets)?,
+        })
+    }
+
+    #[inline(always)]
+    pub(crate) fn len(&self) -> usize
+        ensures { result ≡ length self.now.entries }
+    {
+        self.entries.len()
+    }
+
+    #[inline(always)]
+    pub(crate) fn buckets(&self) -> usize
+        ensures { result ≡ self.now.buckets }
+    {
+        self.chains.buckets()
+    }
+
+    // Whether an identifier with its hash is known at a moment.
+    #[inline(always)]
+    pub(crate) fn knows(&self, identifier: &[u8], hash: u32, moment: Moment) -> bool
+        requires { hash ≡ hash_of identifier.now }
+        ensures { result ≡ knows identifier.now (live moment.clock moment.shape moment.mark self.now.entries) }
+    {
+        if self.chains.buckets() == 0 {
+            return false;
+        }
+        let mut at = self.chains.last(hash);
+        while at > 0 {
+            let number = at - 1;
+            if self.is_at(number, identifier, hash, moment) {
+                return true;
+            }
+            at = self.chains.before(number);
+        }
+        false
+    }
+
+    // Whether the entry of a number has an identifier with its hash, and may count at a moment.
+    #[inline(always)]
+    fn is_at(&self, number: usize, identifier: &[u8], hash: u32, moment: Moment) -> bool
+        requires hash { hash ≡ hash_of identifier.now }
+        requires within { number < length self.now.entries }
+        ensures { result ≡ counts_as moment.clock moment.shape moment.mark identifier.now (slice_index_or self.now.entries number no_entry) }
+    {
+        self.chains.hash(number) == hash
+            && identifier == self.entries.text(number)
+            && !moment.is_late(self.entries.time(number))
+    }
+
+    // Adds an identifier with its hash and a time.
+    #[inline(always)]
+    pub(crate) fn push(&mut self, text: &[u8], hash: u32, time: i64) -> Result<(), AllocError>
+        requires hash { hash ≡ hash_of text.now }
+        requires buckets { 0 < self.old.buckets }
+        ensures added { OnOk result (self.new ≡ record { entries = self.old.entries ++ (text.now, time) ∷ []; buckets = self.old.buckets }) }
+        ensures unchanged { OnErr result (self.new ≡ self.old) }
+    {
+        self.entries.push(text, time)?;
+        if self.chains.push(hash).is_err() {
+            self.entries.pop();
+            return Err(AllocError);
+        }
+        Ok(())
+    }
+
+    // What may count at a moment, with so many buckets.
+    pub(crate) fn live(
+        &self,
+        alloc: Global,
+        buckets: usize,
+        moment: Moment,
+    ) -> Result<Table, AllocError>
+        requires { 0 < buckets }
+        ensures { IfOk result (λ t. t ≡ record { entries = live moment.clock moment.shape moment.mark self.now.entries; buckets = buckets }) }
+    {
+        let mut kept = Table::with_buckets(alloc, buckets)?;
+        for number in 0..self.entries.len() {
+            let time = self.entries.time(number);
+            if !moment.is_late(time) {
+                kept.push(self.entries.text(number), self.chains.hash(number), time)?;
+            }
+        }
+        Ok(kept)
+    }
+}
