@@ -64,18 +64,23 @@ not_not a false is = ap not (sym is)
 
 -- a record comes with its identifier: by what is answered of it
 pub passes_of : {E : Type 0} (w : Setting) (mark : ℤ) (old new : Identifiers) (i : List ℕ) (time : ℕ) (memory : Memory) (r : Result Bool E) → Remembers w mark old memory
+    → new.clock ≡ old.clock → new.shape ≡ old.shape
     → IfOk r (λ passes. passes ≡ not (knows i memory))
-    → (r ≡ Ok false → new ≡ old)
+    → (r ≡ Ok false → new.doubles ≡ old.doubles)
     → (r ≡ Ok true → (later : ℤ) → mark ≤ℤ later → Remembers w later new (live w.clock w.shape later ((i, pos time) ∷ memory)))
     → IfOk r (Passes w mark new (Some i) time memory)
-passes_of w mark old new i time memory (Ok true) h answer double noted = record {
+passes_of w mark old new i time memory (Ok true) h clock shape answer double noted = record {
   answer = not_not true (knows i memory) answer;
   double = λ is. absurd (true≢false is);
   noted = λ is. noted refl;
 }
-passes_of w mark old new i time memory (Ok false) h answer double noted = record {
+passes_of w mark old new i time memory (Ok false) h clock shape answer double noted = record {
   answer = not_not false (knows i memory) answer;
-  double = λ is. subst (λ (r : Identifiers). Remembers w mark r memory) (sym (double refl)) h;
+  double = λ is. record {
+    clock = clock ∙ h.clock;
+    shape = shape ∙ h.shape;
+    recalls = subst (λ (k : Kept). Recalls w.clock w.shape mark k memory) (sym (double refl)) h.recalls;
+  };
   noted = λ is. absurd (true≢false (sym is));
 }
-passes_of w mark old new i time memory (Err e) h answer double noted = tt
+passes_of w mark old new i time memory (Err e) h clock shape answer double noted = tt
