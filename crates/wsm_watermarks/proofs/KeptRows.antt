@@ -46,7 +46,7 @@ module _ {X : Type 0} where
       IsPermutation-push_more all (new ++ held) (new ++ more) x h (IsPermutation-trans (x ∷ (new ++ held)) (new ++ x ∷ held) (new ++ more) front (IsPermutation-append_right new (x ∷ held) more k))
 
   -- the end of those that wait goes
-  cut_off : (n : ℕ) (all new queue : List X) → IsPermutation all (new ++ queue) → IsPermutation all ((new ++ drop n queue) ++ take n queue)
+  pub cut_off : (n : ℕ) (all new queue : List X) → IsPermutation all (new ++ queue) → IsPermutation all ((new ++ drop n queue) ++ take n queue)
   cut_off n all new queue h =
       let swapped : IsPermutation (take n queue ++ drop n queue) (drop n queue ++ take n queue) = IsPermutation-append_comm (take n queue) (drop n queue) in
       let turned : IsPermutation queue (drop n queue ++ take n queue) = subst (λ (zs : List X). IsPermutation zs (drop n queue ++ take n queue)) (joined n queue) swapped in
@@ -58,12 +58,12 @@ module _ {X : Type 0} where
       joined (suc n) [] = refl
       joined (suc n) (x ∷ xs) = ap (λ (zs : List X). x ∷ zs) (joined n xs)
 
-  all_take : (P : X → Type 0) (n : ℕ) (xs : List X) → AllByRecursion P xs → AllByRecursion P (take n xs)
+  pub all_take : (P : X → Type 0) (n : ℕ) (xs : List X) → AllByRecursion P xs → AllByRecursion P (take n xs)
   all_take P zero xs all = tt
   all_take P (suc n) [] all = tt
   all_take P (suc n) (x ∷ xs) all = (all.0, all_take P n xs all.1)
 
-  all_weaker : (P Q : X → Type 0) → ((x : X) → P x → Q x) → (xs : List X) → AllByRecursion P xs → AllByRecursion Q xs
+  pub all_weaker : (P Q : X → Type 0) → ((x : X) → P x → Q x) → (xs : List X) → AllByRecursion P xs → AllByRecursion Q xs
   all_weaker P Q f [] all = tt
   all_weaker P Q f (x ∷ xs) all = (f x all.0, all_weaker P Q f xs all.1)
 
@@ -109,11 +109,11 @@ module _ {T : Type 0} where
       one true rest = (0, omega arith, refl)
       one false rest = (suc rest.0, omega (arith, rest.1), ap (λ (zs : List (Timed T)). q ∷ zs) rest.2)
 
-  queued_permuted : (r : Timed T) (qs : List (Timed T)) → IsPermutation (r ∷ qs) (queued r qs)
+  pub queued_permuted : (r : Timed T) (qs : List (Timed T)) → IsPermutation (r ∷ qs) (queued r qs)
   queued_permuted r qs = let is = queued_is r qs in subst (λ (zs : List (Timed T)). IsPermutation (r ∷ qs) zs) (sym is.2) (IsPermutation-insert qs is.0 r)
 
   module _ (P : Timed T → Type 0) where
-    all_queued : (r : Timed T) (qs : List (Timed T)) → P r → AllByRecursion P qs → AllByRecursion P (queued r qs)
+    pub all_queued : (r : Timed T) (qs : List (Timed T)) → P r → AllByRecursion P qs → AllByRecursion P (queued r qs)
     all_queued r [] p all = (p, tt)
     all_queued r (q ∷ qs) p all = one (nat_lt r.time q.time) (all_queued r qs p all.1)
       where
@@ -133,7 +133,7 @@ module _ {T : Type 0} where
           let least = ltb-false r.time q.time is in
           (all_queued (λ p. q.time ≤ p.time) r qs least sorted.0, rest)
 
-  by_time_left : (limit : ℕ) (qs : List (Timed T)) → AreByTime qs → AreByTime (left limit qs)
+  pub by_time_left : (limit : ℕ) (qs : List (Timed T)) → AreByTime qs → AreByTime (left limit qs)
   by_time_left limit [] sorted = tt
   by_time_left limit (q ∷ qs) sorted = one (is_near limit q) (by_time_left limit qs sorted.1)
     where
@@ -164,7 +164,7 @@ module _ {T : Type 0} where
       later : (q : Timed T) → r.time ≤ q.time → is_far limit q ≡ true
       later q h = ap not (beyond r.time q.time limit (leb-false r.time limit far) h)
 
-  left_far : (limit : ℕ) (qs : List (Timed T)) → AreByTime qs → AllByRecursion (λ q. is_far limit q ≡ true) (left limit qs)
+  pub left_far : (limit : ℕ) (qs : List (Timed T)) → AreByTime qs → AllByRecursion (λ q. is_far limit q ≡ true) (left limit qs)
   left_far limit [] sorted = tt
   left_far limit (q ∷ qs) sorted = one (is_near limit q) refl (left_far limit qs sorted.1)
     where
@@ -174,16 +174,16 @@ module _ {T : Type 0} where
 
   -- ---- what goes
 
-  rows_append : (xs ys : List (Item T)) → rows_of (xs ++ ys) ≡ rows_of xs ++ rows_of ys
+  pub rows_append : (xs ys : List (Item T)) → rows_of (xs ++ ys) ≡ rows_of xs ++ rows_of ys
   rows_append [] ys = refl
   rows_append (Mark m ∷ xs) ys = rows_append xs ys
   rows_append (Passed r ∷ xs) ys = ap (λ (zs : List (Timed T)). r ∷ zs) (rows_append xs ys)
 
-  rows_all : (rs : List (Timed T)) → rows_of (all_passed rs) ≡ rs
+  pub rows_all : (rs : List (Timed T)) → rows_of (all_passed rs) ≡ rs
   rows_all [] = refl
   rows_all (r ∷ rs) = ap (λ (zs : List (Timed T)). r ∷ zs) (rows_all rs)
 
-  no_row : (old new : ℕ) (items : List (Item T)) → rows_of (mark_item old new ++ items) ≡ rows_of items
+  pub no_row : (old new : ℕ) (items : List (Item T)) → rows_of (mark_item old new ++ items) ≡ rows_of items
   no_row old new items = one (nat_lt old new)
     where
       one : (b : Bool) → rows_of (cond b (Mark new ∷ []) [] ++ items) ≡ rows_of items
@@ -191,7 +191,7 @@ module _ {T : Type 0} where
       one false = refl
 
   -- what goes and what goes on waiting is what waited
-  parted : (rule : Rule) (ahead top mark : ℕ) (rs : List (Timed T)) → rs ≡ rows_of (let_go rule ahead top mark rs) ++ left (top + ahead) rs
+  pub parted : (rule : Rule) (ahead top mark : ℕ) (rs : List (Timed T)) → rs ≡ rows_of (let_go rule ahead top mark rs) ++ left (top + ahead) rs
   parted rule ahead top mark [] = refl
   parted rule ahead top mark (r ∷ rs) = one (is_near (top + ahead) r) (parted rule ahead top (mark_for rule top mark r.time) rs)
     where
@@ -223,7 +223,7 @@ module _ {T : Type 0} where
           ap (λ (m : ℕ). last_mark m items) same
 
   module _ (rule : Rule) (ahead top : ℕ) where
-    gone_in_time : 0 < rule.step → (rs : List (Timed T)) (mark : ℕ) → AreByTime rs → AllByRecursion (λ r. mark ≤ r.time) rs → AreInTime (span_of rule ahead) mark (let_go rule ahead top mark rs)
+    pub gone_in_time : 0 < rule.step → (rs : List (Timed T)) (mark : ℕ) → AreByTime rs → AllByRecursion (λ r. mark ≤ r.time) rs → AreInTime (span_of rule ahead) mark (let_go rule ahead top mark rs)
     gone_in_time some [] mark sorted all = tt
     gone_in_time some (r ∷ rs) mark sorted all =
         let low = mark_low rule ahead top mark r.time all.0 in
@@ -236,7 +236,7 @@ module _ {T : Type 0} where
             (mark_low rule ahead top mark r.time all.0, near_mark rule ahead top some mark r.time (leb-true r.time (top + ahead) is), rest)
         one false is rest = tt
 
-    last_to : (rs : List (Timed T)) (mark : ℕ) → mark ≤ top → last_mark mark (let_go rule ahead top mark rs) ≤ top
+    pub last_to : (rs : List (Timed T)) (mark : ℕ) → mark ≤ top → last_mark mark (let_go rule ahead top mark rs) ≤ top
     last_to [] mark le = le
     last_to (r ∷ rs) mark le = one (is_near (top + ahead) r) (last_to rs (mark_for rule top mark r.time) (mark_to rule ahead top mark r.time le))
       where
@@ -257,7 +257,7 @@ module _ {T : Type 0} where
     pub far : AllByRecursion (λ r. is_far limit r ≡ true) w.held
     pub mark : w.mark ≡ top
 
-  ready_from : (ahead top : ℕ) (w : Went T) → IsReadyAt (top + ahead) top w → IsReady w
+  pub ready_from : (ahead top : ℕ) (w : Went T) → IsReadyAt (top + ahead) top w → IsReady w
   ready_from ahead top w k = record {
     sorted = k.sorted;
     ahead = all_weaker (λ r. is_far (top + ahead) r ≡ true) (λ r. w.mark ≤ r.time) (λ r h. later r h) w.held k.far;
@@ -279,7 +279,7 @@ module _ {T : Type 0} where
   abbrev pub waits : Rule → ℕ → ℕ → Went T → Coming T → Went T
   waits rule ahead room w c = record { out = out_then rule ahead w c ++ all_passed (drop room (queued c.0 (left (c.1 + ahead) w.held))); mark = mark_then rule ahead w c; held = take room (queued c.0 (left (c.1 + ahead) w.held)) }
 
-  ready_on : (rule : Rule) (ahead room : ℕ) (w : Went T) (c : Coming T) → IsReady w → w.mark ≤ c.1 → IsReadyAt (c.1 + ahead) c.1 (went_on rule ahead room w c)
+  pub ready_on : (rule : Rule) (ahead room : ℕ) (w : Went T) (c : Coming T) → IsReady w → w.mark ≤ c.1 → IsReadyAt (c.1 + ahead) c.1 (went_on rule ahead room w c)
   ready_on rule ahead room w c k le = one (is_near (c.1 + ahead) c.0) refl
     where
       greatest : (a b : ℕ) → a ≤ b → max a b ≡ b

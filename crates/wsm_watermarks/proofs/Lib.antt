@@ -1,11 +1,11 @@
 mod Tellers
 mod Agreed
 mod Boards
-mod Marks
+pub mod Marks
 mod Tolerance
 mod Plain
-mod Served
+pub mod Served
 mod Tables
-mod KeptRows
+pub mod KeptRows
 pub mod Letting
 mod InTime

@@ -1,0 +1,11 @@
+mod Counts
+mod Orders
+mod Moves
+mod Timed
+mod Standing
+mod Passing
+mod Items
+mod Taking
+mod Following
+mod Lines
+mod Ends
