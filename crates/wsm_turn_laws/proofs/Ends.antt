@@ -18,7 +18,7 @@ use Rattle.wsm_doubles.specs.Passing.{IsNumbered, SentText, TextDelivery, TextPa
 use Rattle.wsm_turns.specs.declared.clocks.Clocks.{Clocks}
 use Rattle.wsm_turns.specs.Numbered.{Numbered}
 use Rattle.wsm_turns.specs.Turns.{Kept, Said, at_end, fed_with, kept, numbered, setting_of}
-use Rattle.wsm_turn_laws.specs.Delivered.{EndsDeliveries, FeedsDeliveries, IsFollowed, IsPassed, LeaveMark, delivered, identifier_at, records_of}
+use Rattle.wsm_turn_laws.specs.Delivered.{EndsDeliveries, FeedsDeliveries, Suits, IsPassed, AllLeaveMark, delivered, identifier_at, records_of}
 use Rattle.wsm_turn_laws.proofs.Counts.{any-of_count}
 use Rattle.wsm_turn_laws.proofs.Following.{Follows, OwnNumbers}
 use Rattle.wsm_turn_laws.proofs.Items.{behind_all, items_go, last_all}
@@ -64,7 +64,7 @@ all_numbered : (number : ℕ) (rows : List Row) → map (numbered number) (all_p
 all_numbered number [] = refl
 all_numbered number (r ∷ rows) = ap (λ (gs : List Numbered). r.row ∷ gs) (all_numbered number rows)
 
-module _ {F : Type 0} (own_numbers : OwnNumbers) (by_number : ByNumber) (q : Query) (c : Clocks) (ok : IsFollowed c q) (lines : List (Said F)) (leave : LeaveMark lines) where
+module _ {F : Type 0} (own_numbers : OwnNumbers) (by_number : ByNumber) (q : Query) (c : Clocks) (ok : Suits c q) (lines : List (Said F)) (leave : AllLeaveMark lines) where
   abbrev k : Kept
   k = kept (setting_of (Some c) q) lines
 

@@ -26,7 +26,7 @@ use Rattle.wsm_doubles.proofs.Forgotten.{live-live}
 use Rattle.wsm_turns.specs.declared.clocks.Clocks.{Clocks}
 use Rattle.wsm_turns.specs.Numbered.{Numbered, timed}
 use Rattle.wsm_turns.specs.Turns.{Kept, Said, Setting, Spoken, going, is_double, kept, noted, numbered, passing, setting_of, stamp_of, stamped, turn_by}
-use Rattle.wsm_turn_laws.specs.Delivered.{IsFollowed, LeaveMark, delivered, identifier_at, identifier_by, identifier_of, leaves_mark, records_of, sent_of}
+use Rattle.wsm_turn_laws.specs.Delivered.{Suits, AllLeaveMark, delivered, identifier_at, identifier_by, identifier_of, LeavesMark, records_of, sent_of}
 use Rattle.wsm_turn_laws.proofs.Counts.{count-append, count-cons, one_if}
 use Rattle.wsm_turn_laws.proofs.Following.{Follows, OwnNumbers, follows_double, follows_on, follows_still, is_there, kept_noted, kept_own, may_come, not_there, untag}
 use Rattle.wsm_turn_laws.proofs.Moves.{at_most, moves_behind, moves_live}
@@ -98,7 +98,7 @@ stamped_at d (Record (Some key) time values) stamp h =
 more : (m n : ℕ) → n ≡ m + 1 → m + 1 ≡ n
 more m n h = sym h
 
-module _ (own_numbers : OwnNumbers) (q : Query) (c : Clocks) (name : ℕ → List ℕ) (ok : IsFollowed c q) where
+module _ (own_numbers : OwnNumbers) (q : Query) (c : Clocks) (name : ℕ → List ℕ) (ok : Suits c q) where
   abbrev setting : Setting
   setting = setting_of (Some c) q
 
@@ -106,7 +106,7 @@ module _ (own_numbers : OwnNumbers) (q : Query) (c : Clocks) (name : ℕ → Lis
   held_none i k o none = let apart = count-append (λ e. bytes_eq i e.0) (held q name k.waits) o.memory in omega (arith, apart, none)
 
   -- what says nothing of time goes on at once
-  follows_plain : (count : ℕ) (records : List SentText) (k : Kept) (e : Event) → Follows q name c.rule count records k → leaves_mark e → name (count + 1) ≡ 1 ∷ (count + 1) ∷ []
+  follows_plain : (count : ℕ) (records : List SentText) (k : Kept) (e : Event) → Follows q name c.rule count records k → LeavesMark e → name (count + 1) ≡ 1 ∷ (count + 1) ∷ []
       → Follows q name c.rule (count + 1) (sent_of (name (count + 1)) e ++ records) (going setting k (record { number = count + 1; event = e } ∷ [])).kept
   follows_plain count records k (Record key time values) h leaves own =
       let n : ℕ = count + 1 in
@@ -201,7 +201,7 @@ module _ (own_numbers : OwnNumbers) (q : Query) (c : Clocks) (name : ℕ → Lis
             follows_double q name c.rule own_numbers count records k (sent q name row) h
             (subst (λ (i : List ℕ). 0 < times i all) (sym names) (is_there x.identifier (count + 1) stamp k.memory all h.same known))
 
-  follows_turn : (count : ℕ) (records : List SentText) (k : Kept) (x : Spoken) (o : Option Stamp) → stamp_of q.declared x.event ≡ o → Follows q name c.rule count records k → leaves_mark x.event
+  follows_turn : (count : ℕ) (records : List SentText) (k : Kept) (x : Spoken) (o : Option Stamp) → stamp_of q.declared x.event ≡ o → Follows q name c.rule count records k → LeavesMark x.event
       → name (count + 1) ≡ identifier_by (count + 1) o x.identifier → Follows q name c.rule (count + 1) (sent_of (name (count + 1)) x.event ++ records) (turn_by setting k (count + 1) o x).kept
   follows_turn count records k x None tells h leaves names = follows_plain count records k x.event h leaves names
   follows_turn count records k x (Some stamp) tells h leaves names =
@@ -209,7 +209,7 @@ module _ (own_numbers : OwnNumbers) (q : Query) (c : Clocks) (name : ℕ → Lis
       subst (λ (ss : List SentText). Follows q name c.rule (count + 1) (ss ++ records) (passing setting k (count + 1) stamp x).kept) (sym (sent_alone (name (count + 1)) x.event at.key (pos stamp.time) at.values at.is))
       (follows_passing count records k stamp x h at names)
 
-  pub follows : {F : Type 0} (lines : List (Said F)) → AreNamed q.declared name lines → LeaveMark lines → Follows q name c.rule (length lines) (delivered q.declared lines) (kept setting lines)
+  pub follows : {F : Type 0} (lines : List (Said F)) → AreNamed q.declared name lines → AllLeaveMark lines → Follows q name c.rule (length lines) (delivered q.declared lines) (kept setting lines)
   follows [] names leave = record {
     deliveries = [];
     passing = record { passed = []; memory = [] };

@@ -47,17 +47,17 @@ waiting_identifiers d lines k = map (λ r. identifier_at d lines r.row.number) k
 -- ---- the premises
 
 -- a record, or a watermark of another source than the first, which clocks tell
-abbrev pub leaves_mark : Event → Type 0
-leaves_mark (Record key time values) = ⊤
-leaves_mark (Watermark source time) = is_source 0 source ≡ false
+abbrev pub LeavesMark : Event → Type 0
+LeavesMark (Record key time values) = ⊤
+LeavesMark (Watermark source time) = is_source 0 source ≡ false
 
-abbrev pub LeaveMark : {F : Type 0} → List (Said F) → Type 0
-LeaveMark [] = ⊤
-LeaveMark (Err why ∷ before) = LeaveMark before
-LeaveMark (Ok x ∷ before) = leaves_mark x.event × LeaveMark before
+abbrev pub AllLeaveMark : {F : Type 0} → List (Said F) → Type 0
+AllLeaveMark [] = ⊤
+AllLeaveMark (Err why ∷ before) = AllLeaveMark before
+AllLeaveMark (Ok x ∷ before) = LeavesMark x.event × AllLeaveMark before
 
 -- clocks begin no sooner than the query, whose windows are some and whose lateness is a span
-pub record IsFollowed (c : Clocks) (q : Query) : Type 0 where
+pub record Suits (c : Clocks) (q : Query) : Type 0 where
   pub shape : IsShape q.shape
   pub lateness : pos 0 ≤ℤ q.clock.lateness
   pub start : q.clock.start ≤ℤ pos c.rule.start

@@ -5,7 +5,7 @@ ghost use Rattle.std.specs.Prelude.{List};
 ghost use Rattle.wsm_semantics.specs.Query.{Query};
 ghost use Rattle.wsm_turns.specs.declared.clocks.Clocks.{Clocks};
 ghost use Rattle.wsm_turns.specs.Turns.{Said};
-ghost use Rattle.wsm_turn_laws.specs.Delivered.{CountOnce, EndsDeliveries, FeedsDeliveries, IsFollowed, LeaveMark};
+ghost use Rattle.wsm_turn_laws.specs.Delivered.{CountOnce, EndsDeliveries, FeedsDeliveries, Suits, AllLeaveMark};
 
 use wsm_doubles::laws::passes_by_number;
 use wsm_semantics::laws::passes_once;
@@ -22,9 +22,9 @@ use wsm_semantics::laws::passes_once;
 /// has one of its own. The clocks begin no sooner than the query, and no line tells a watermark of the first source, which is theirs:
 /// else a record that waits may be late as it goes on, and its doubles that were left out would pass.
 pub fn feeds_deliveries<F>()
-    ensures so_far { (q : Query) (c : Clocks) (lines : List (Said F)) → IsFollowed c q → LeaveMark lines → FeedsDeliveries q c lines }
-    ensures at_end { (q : Query) (c : Clocks) (lines : List (Said F)) → IsFollowed c q → LeaveMark lines → EndsDeliveries q c lines }
-    ensures once { (q : Query) (c : Clocks) (lines : List (Said F)) → IsFollowed c q → LeaveMark lines → CountOnce q c lines }
+    ensures so_far { (q : Query) (c : Clocks) (lines : List (Said F)) → Suits c q → AllLeaveMark lines → FeedsDeliveries q c lines }
+    ensures at_end { (q : Query) (c : Clocks) (lines : List (Said F)) → Suits c q → AllLeaveMark lines → EndsDeliveries q c lines }
+    ensures once { (q : Query) (c : Clocks) (lines : List (Said F)) → Suits c q → AllLeaveMark lines → CountOnce q c lines }
 {
     passes_by_number();
     passes_once();

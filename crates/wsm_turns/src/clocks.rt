@@ -1,6 +1,6 @@
 //! The clocks of a log.
 
-ghost use Rattle.std.specs.Prelude.{◌≡◌, ◌+◌, ◌≤◌, IfSome, pos};
+ghost use Rattle.std.specs.Prelude.{◌≡◌, ◌+◌, ◌≤◌, IfSome, pos, unsigned_abs};
 ghost use Rattle.wsm_record.specs.Event.{event_of};
 ghost use Rattle.wsm_turns.specs.Clocks.{IsClocks, IsRule};
 ghost use Rattle.wsm_turns.specs.Turns.{mark_at, stamp_of};
@@ -25,7 +25,8 @@ pub struct Clocks {
 /// it and goes in such steps, and a clock is heard while its last record is among so many last ones. There is none where no
 /// clock or more than [`MOST_AGREEING`] have to agree, or a step is 0. Times and spans are in units of event time.
 pub fn rule_of(agree: u64, bound: u64, step: u64, forget: u64, start: i64) -> Option<Rule>
-    ensures { IfSome result IsRule }
+    ensures rule { IfSome result IsRule }
+    ensures start { IfSome result (λ r. r.start ≡ unsigned_abs start) }
 {
     if agree == 0 || (MOST_AGREEING as u64) < agree || step == 0 {
         return None;
@@ -52,6 +53,7 @@ pub fn clocks_of(
     skew: i64,
 ) -> Option<Clocks>
     ensures clocks { IfSome result IsClocks }
+    ensures start { IfSome result (λ c. c.rule.start ≡ unsigned_abs start) }
     ensures ahead { IfSome result (λ c. pos c.ahead ≡ skew) }
     ensures in_time { IfSome result (λ c. c.rule.bound + c.rule.step ≤ c.ahead + 1) }
 {

@@ -46,7 +46,7 @@ module _ {X : Type 0} where
       IsPermutation-push_more all (new ++ held) (new ++ more) x h (IsPermutation-trans (x ∷ (new ++ held)) (new ++ x ∷ held) (new ++ more) front (IsPermutation-append_right new (x ∷ held) more k))
 
   -- the end of those that wait goes
-  pub cut_off : (n : ℕ) (all new queue : List X) → IsPermutation all (new ++ queue) → IsPermutation all ((new ++ drop n queue) ++ take n queue)
+  cut_off : (n : ℕ) (all new queue : List X) → IsPermutation all (new ++ queue) → IsPermutation all ((new ++ drop n queue) ++ take n queue)
   cut_off n all new queue h =
       let swapped : IsPermutation (take n queue ++ drop n queue) (drop n queue ++ take n queue) = IsPermutation-append_comm (take n queue) (drop n queue) in
       let turned : IsPermutation queue (drop n queue ++ take n queue) = subst (λ (zs : List X). IsPermutation zs (drop n queue ++ take n queue)) (joined n queue) swapped in
@@ -58,7 +58,7 @@ module _ {X : Type 0} where
       joined (suc n) [] = refl
       joined (suc n) (x ∷ xs) = ap (λ (zs : List X). x ∷ zs) (joined n xs)
 
-  pub all_take : (P : X → Type 0) (n : ℕ) (xs : List X) → AllByRecursion P xs → AllByRecursion P (take n xs)
+  all_take : (P : X → Type 0) (n : ℕ) (xs : List X) → AllByRecursion P xs → AllByRecursion P (take n xs)
   all_take P zero xs all = tt
   all_take P (suc n) [] all = tt
   all_take P (suc n) (x ∷ xs) all = (all.0, all_take P n xs all.1)
@@ -133,7 +133,7 @@ module _ {T : Type 0} where
           let least = ltb-false r.time q.time is in
           (all_queued (λ p. q.time ≤ p.time) r qs least sorted.0, rest)
 
-  pub by_time_left : (limit : ℕ) (qs : List (Timed T)) → AreByTime qs → AreByTime (left limit qs)
+  by_time_left : (limit : ℕ) (qs : List (Timed T)) → AreByTime qs → AreByTime (left limit qs)
   by_time_left limit [] sorted = tt
   by_time_left limit (q ∷ qs) sorted = one (is_near limit q) (by_time_left limit qs sorted.1)
     where
@@ -183,7 +183,7 @@ module _ {T : Type 0} where
   rows_all [] = refl
   rows_all (r ∷ rs) = ap (λ (zs : List (Timed T)). r ∷ zs) (rows_all rs)
 
-  pub no_row : (old new : ℕ) (items : List (Item T)) → rows_of (mark_item old new ++ items) ≡ rows_of items
+  no_row : (old new : ℕ) (items : List (Item T)) → rows_of (mark_item old new ++ items) ≡ rows_of items
   no_row old new items = one (nat_lt old new)
     where
       one : (b : Bool) → rows_of (cond b (Mark new ∷ []) [] ++ items) ≡ rows_of items
@@ -223,7 +223,7 @@ module _ {T : Type 0} where
           ap (λ (m : ℕ). last_mark m items) same
 
   module _ (rule : Rule) (ahead top : ℕ) where
-    pub gone_in_time : 0 < rule.step → (rs : List (Timed T)) (mark : ℕ) → AreByTime rs → AllByRecursion (λ r. mark ≤ r.time) rs → AreInTime (span_of rule ahead) mark (let_go rule ahead top mark rs)
+    gone_in_time : 0 < rule.step → (rs : List (Timed T)) (mark : ℕ) → AreByTime rs → AllByRecursion (λ r. mark ≤ r.time) rs → AreInTime (span_of rule ahead) mark (let_go rule ahead top mark rs)
     gone_in_time some [] mark sorted all = tt
     gone_in_time some (r ∷ rs) mark sorted all =
         let low = mark_low rule ahead top mark r.time all.0 in
