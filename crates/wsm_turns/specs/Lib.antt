@@ -3,4 +3,5 @@ pub mod Clocks
 pub mod Turns
 pub mod TurnRows
 pub mod Waits
+pub mod Noted
 pub mod Known

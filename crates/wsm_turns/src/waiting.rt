@@ -8,6 +8,7 @@ ghost use Rattle.wsm_turns.specs.Numbered.{timed};
 ghost use Rattle.wsm_turns.specs.Clocks.{AreClocks, IsClocks};
 ghost use Rattle.wsm_turns.specs.Turns.{Kept, numbered, start_of};
 ghost use Rattle.wsm_turns.specs.Waits.{Hear, Hears, Takes};
+ghost use Rattle.wsm_turns.specs.Noted.{Notes};
 
 use crate::clocks::{Clocks, mark_at};
 use crate::line_event::LineEvent;
@@ -34,6 +35,7 @@ impl Waiting {
     ghost use Rattle.wsm_turns.specs.Clocks.{IsClocks};
     ghost use Rattle.wsm_turns.specs.Turns.{Kept};
     ghost use Rattle.wsm_turns.specs.Waits.{Hear, Hears, Takes};
+    ghost use Rattle.wsm_turns.specs.Noted.{Notes};
 
     // So many clocks, before the first stamp.
     fn open(alloc: Global, clocks: Clocks, count: usize) -> Result<Waiting, AllocError>
@@ -87,6 +89,17 @@ impl Waiting {
         )
     }
 
+    // Takes note of a watermark that the line of a number tells, and hands on what waits and isn't ahead of it.
+    fn note<T: Taker>(&mut self, mark: u64, number: u64, taker: &mut T) -> Result<(), AllocError>
+        ensures { (c : AnyClocks) (count : ℕ) (k : Kept) → Hears c count self.old k.stamps k.told k.waits →
+            OnOk result (Notes (Some c) count k (Some self.new) (T.took taker.old taker.new) mark number) }
+    {
+        self.marks.note(mark);
+        let last = let_go(&mut self.held, &self.marks, 0, self.told, number, taker)?;
+        self.told = last.max(mark);
+        Ok(())
+    }
+
     // Hands on what waits, the earliest first.
     fn take_rest<T: Taker>(&self, taker: &mut T) -> Result<(), AllocError>
         ensures { OnOk result (T.took taker.old taker.new (map (λ r. r.row) self.now.held.rows)) }
@@ -134,6 +147,28 @@ pub fn take_record<T: Taker>(
     match waiting {
         Some(waiting) => waiting.take(stamp, number, event, taker),
         None => taker.take(number, event),
+    }
+}
+
+/// Takes note of a watermark that the line of a number tells without the clocks: they tell only greater ones behind it. What waits and
+/// isn't ahead of it is handed on, each record behind the watermark that its time alone would raise, so that none is late for having waited.
+/// The watermark itself isn't.
+///
+/// # Errors
+///
+/// Memory was refused. Then some of it was handed on, and no further record is to come.
+pub fn take_mark<T: Taker>(
+    waiting: &mut Option<Waiting>,
+    mark: u64,
+    number: u64,
+    taker: &mut T,
+) -> Result<(), AllocError>
+    ensures { (clocks : Option AnyClocks) (count : ℕ) (k : Kept) → Hear clocks count waiting.old k.stamps k.told k.waits →
+        OnOk result (Notes clocks count k waiting.new (T.took taker.old taker.new) mark number) }
+{
+    match waiting {
+        Some(waiting) => waiting.note(mark, number, taker),
+        None => Ok(()),
     }
 }
 
