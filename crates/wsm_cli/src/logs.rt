@@ -2,6 +2,7 @@
 
 ghost use Rattle.wsm_turns.specs.Clocks.{AreClocks};
 
+use crate::counts::Teller;
 use crate::jobs::end_of;
 use crate::progress::Watched;
 use crate::sources::{Bound, source_for};
@@ -34,7 +35,7 @@ pub fn run_from<R: Files + AllocGlobal + Input + Print + Eprint + Clock>(
     }
 }
 
-fn log_over<R: AllocGlobal + Print, I: Read + Drop>(
+fn log_over<R: AllocGlobal + Print + Eprint, I: Read + Drop>(
     rt: &R,
     verified: Verified,
     bound: Bound,
@@ -43,14 +44,17 @@ fn log_over<R: AllocGlobal + Print, I: Read + Drop>(
     requires { AreClocks bound.clocks }
 {
     let mut output = Guarded::new(io::writer(rt));
-    run_log(
+    let mut teller = Teller::new(rt);
+    let end = run_log(
         rt.alloc(),
         verified,
         bound.source,
         bound.clocks,
         log,
         &mut output,
+        &mut teller,
     )?;
+    teller.tell(end.counts);
     Ok(true)
 }
 

@@ -5,6 +5,7 @@
 //! the words' refusal has `clap`'s own text.
 #![tactic(auto)]
 
+mod counts;
 mod deals;
 mod jobs;
 mod keeps;

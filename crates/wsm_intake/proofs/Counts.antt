@@ -10,3 +10,6 @@ faults_and_refused a b m n h k = omega arith
 
 pub one_more : (n : ℕ) → n + 1 ≡ suc n
 one_more n = omega arith
+
+pub no_more : (a n : ℕ) → a ≡ counter n → a ≡ counter (n + 0)
+no_more a n h = omega arith

@@ -3,7 +3,7 @@ use Rattle.std.proofs.Common.{◌≡◌, ◌∙◌, ◌++◌, ◌∷◌, ℕ, Li
 use Rattle.std.specs.Io.KnownBytes.{Appends}
 use Rattle.wsm_csv.specs.Device.{TakesPart}
 use Rattle.wsm_csv.proofs.Written.{Appends-join, Appends-start, TakesPart-last}
-use Rattle.wsm_semantics.specs.declared.ending.Totals.{Totals}
+use Rattle.wsm_intake.specs.declared.totals.LogTotals.{LogTotals}
 use Rattle.wsm_program.specs.Program.{Program}
 use Rattle.wsm_machine.specs.Meaning.{query_of}
 use Rattle.wsm_lines.specs.declared.source.Source.{Source}
@@ -39,6 +39,6 @@ module _ (s : Source) (clocks : Option Clocks) (p : Program) (read : List (List 
       subst (TakesPart old new) next_text (TakesPart-last old now new (turns_text (query_of p) clocks (read_by s (query_of p) read)) t'.told.lines.items stands.text part)
 
 -- the bytes with those behind all turns
-pub last_text : (s : Source) (clocks : Option Clocks) (p : Program) (read : List (List ℕ)) (t : Intake) (totals : Totals) → Ends s clocks p t (reverse read) totals
+pub last_text : (s : Source) (clocks : Option Clocks) (p : Program) (read : List (List ℕ)) (t : Intake) (end : LogTotals) → Ends s clocks p t (reverse read) end
     → turns_text (query_of p) clocks (read_by s (query_of p) read) ++ t.told.lines.items ≡ text (query_of p) clocks (read_by s (query_of p) read)
-last_text s clocks p read t totals ends = ap (λ (l : List ℕ). turns_text (query_of p) clocks (read_by s (query_of p) read) ++ l) ends.text
+last_text s clocks p read t end ends = ap (λ (l : List ℕ). turns_text (query_of p) clocks (read_by s (query_of p) read) ++ l) ends.text

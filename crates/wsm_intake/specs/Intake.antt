@@ -17,6 +17,7 @@ use Rattle.wsm_lines.specs.declared.fault.LineFault.{LineFault}
 use Rattle.wsm_lines.specs.declared.source.Source.{Source}
 use Rattle.wsm_turns.specs.declared.clocks.Clocks.{Clocks}
 use Rattle.wsm_turns.specs.Numbered.{Numbered}
+use Rattle.wsm_turns.specs.Heard.{left_out}
 use Rattle.wsm_turns.specs.Turns as turns
 use Rattle.wsm_turns.specs.Turns.{Kept, Setting, Turn, at_end, fed_with, kept, setting_of, spoken, turn_of}
 
@@ -32,6 +33,10 @@ said_at s d before line = spoken (identifier_of s before line) (said_of s d befo
 -- the turn of the line of a number
 abbrev pub turn_at : Setting → Kept → ℕ → Said → Turn
 turn_at w k number x = turn_of w k number x
+
+-- how many records it leaves out
+abbrev pub left_at : Setting → Kept → Said → ℕ
+left_at w k x = left_out w k x
 
 -- what lines say
 abbrev pub said : Source → Declared → List (List ℕ) → List Said

@@ -1,4 +1,5 @@
 pub mod Intake
+pub mod Counts
 pub mod Tells
 pub mod Turns
 pub mod Run

@@ -10,6 +10,8 @@ use Rattle.wsm_lines.specs.declared.source.Source.{Source}
 use Rattle.wsm_log.specs.LinesOf.{AreAll, AreFirst}
 use Rattle.wsm_turns.specs.declared.clocks.Clocks.{Clocks}
 use Rattle.wsm_intake.specs.declared.intake.Intake.{Intake}
+use Rattle.wsm_intake.specs.declared.totals.LogCounts.{LogCounts}
+use Rattle.wsm_intake.specs.Counts.{counts_of}
 use Rattle.wsm_log_rows.specs.declared.end.LogEnd.{LogEnd}
 use Rattle.wsm_log_rows.specs.declared.end.LogEnd.TheVariants as ends
 use Rattle.wsm_intake.specs.Intake.{Said, said, end_line, text, turns_text}
@@ -54,6 +56,10 @@ pub record Stands (s : Source) (clocks : Option Clocks) (p : Program) (lines : L
 -- all lines were read, and what the source and the query mean for them was written
 abbrev pub LogWritten : Option (List ℕ) → Source → Option Clocks → Option (List ℕ) → Option (List ℕ) → Query → Totals → Type 0
 LogWritten known s clocks old new q totals = (lines : List (List ℕ)) × Completes known s clocks q lines old new totals
+
+-- all lines were read, and this is what is counted of them
+abbrev pub LogCounted : Option (List ℕ) → Source → Option Clocks → Query → LogCounts → Type 0
+LogCounted known s clocks q counts = (lines : List (List ℕ)) × AreAll s.longest known lines × (counts ≡ counts_of q clocks (read_by s q lines))
 
 -- a beginning of that was written
 abbrev pub LogBroken : Option (List ℕ) → Source → Option Clocks → Option (List ℕ) → Option (List ℕ) → Query → LogEnd → Type 0

@@ -1,5 +1,5 @@
 -- What an intake keeps, and how it fits the lines so far.
-use Rattle.std.specs.Prelude.{◌≡◌, ℕ, List, ◌∷◌, ◌++◌, length, Option}
+use Rattle.std.specs.Prelude.{◌≡◌, ℕ, ◌+◌, List, ◌∷◌, ◌++◌, length, Option}
 use Rattle.wsm_admission.specs.Admission.{counter}
 use Rattle.wsm_semantics.specs.Lines.{Line, End}
 use Rattle.wsm_semantics.specs.declared.ending.Totals.{Totals}
@@ -10,7 +10,10 @@ use Rattle.wsm_lines.specs.Reader.{Follows, event_read, identifier_read}
 use Rattle.wsm_lines.specs.declared.source.Source.{Source}
 use Rattle.wsm_turns.specs.declared.clocks.Clocks.{Clocks}
 use Rattle.wsm_intake.specs.declared.intake.Intake.{Intake}
+use Rattle.wsm_intake.specs.declared.totals.LogTotals.{LogTotals}
+use Rattle.wsm_turns.specs.Heard.{left_count}
 use Rattle.wsm_turns.specs.Turns.{Kept, Setting, Spoken, Turn, kept, setting_of, watermark}
+use Rattle.wsm_intake.specs.Counts.{counts_of}
 use Rattle.wsm_intake.specs.Intake.{end_line, end_text, events_text, fault_count, said, said_at, turn_text}
 use Rattle.wsm_turns.specs.Waits.{Hear}
 use Rattle.wsm_turns.specs.Known.{Remembers}
@@ -35,12 +38,14 @@ pub record Fits (s : Source) (clocks : Option Clocks) (p : Program) (t : Intake)
   pub reader : Follows s before t.reader
   pub taken : t.taken ≡ length (said s p.header.schema before)
   pub faults : t.faults ≡ counter (fault_count (said s p.header.schema before))
+  pub doubles : t.doubles ≡ counter (left_count (setting_by clocks p) (said s p.header.schema before))
 
--- a turn was taken, with its bytes behind those that were there
-pub record Goes (clocks : Option Clocks) (p : Program) (old new : Intake) (k : Kept) (turn : Turn) : Type 0 where
+-- a turn was taken, with its bytes behind those that were there; so many records more were left out
+pub record Goes (clocks : Option Clocks) (p : Program) (old new : Intake) (k : Kept) (turn : Turn) (left : ℕ) : Type 0 where
   pub holds : Holds clocks p new turn.kept
   pub text : new.told.lines.items ≡ old.told.lines.items ++ events_text (query_of p) k.fed turn.goes
-  pub others : new ≡ record old { told = new.told; waiting = new.waiting; identifiers = new.identifiers }
+  pub doubles : (n : ℕ) → old.doubles ≡ counter n → new.doubles ≡ counter (n + left)
+  pub others : new ≡ record old { told = new.told; waiting = new.waiting; identifiers = new.identifiers; doubles = new.doubles }
 
 -- one line more, with the bytes of its turn
 pub record Turned (s : Source) (clocks : Option Clocks) (p : Program) (new : Intake) (before : List (List ℕ)) (line : List ℕ) : Type 0 where
@@ -51,7 +56,8 @@ pub record Turned (s : Source) (clocks : Option Clocks) (p : Program) (new : Int
 abbrev pub line_of : Totals → Line
 line_of t = End t.rows t.admitted t.late t.refused t.panes
 
--- the intake is at its end: its bytes are those behind all turns, with these numbers
-pub record Ends (s : Source) (clocks : Option Clocks) (p : Program) (new : Intake) (lines : List (List ℕ)) (totals : Totals) : Type 0 where
+-- the intake is at its end: its bytes are those behind all turns, with these numbers and counts
+pub record Ends (s : Source) (clocks : Option Clocks) (p : Program) (new : Intake) (lines : List (List ℕ)) (end : LogTotals) : Type 0 where
   pub text : new.told.lines.items ≡ end_text (query_of p) clocks (said s p.header.schema lines)
-  pub numbers : line_of totals ≡ end_line (query_of p) clocks (said s p.header.schema lines)
+  pub numbers : line_of end.totals ≡ end_line (query_of p) clocks (said s p.header.schema lines)
+  pub counts : end.counts ≡ counts_of (query_of p) clocks (said s p.header.schema lines)

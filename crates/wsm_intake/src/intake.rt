@@ -8,14 +8,17 @@ ghost use Rattle.wsm_turns.specs.Turns.{Kept, watermark};
 ghost use Rattle.wsm_intake.specs.Tells.{Serves};
 ghost use Rattle.wsm_intake.specs.Turns.{setting_by};
 
+use crate::listener::{Listener, is_told};
 use crate::told::{Told, add_fault};
+use crate::totals::{LogCounts, LogTotals};
 use std::alloc::{AllocError, Global};
 use wsm_csv::{Device, DeviceFault, end_text, write_out};
 use wsm_engine::Totals;
 use wsm_lines::{LineFault, LineReader, LineRefusal, Source};
 use wsm_rules::Verified;
 use wsm_turns::{
-    Clocks, Identifiers, Stamp, Taker, Waiting, open_clocks, stamp_of, take_record, take_rest,
+    Clocks, Identifiers, Stamp, Taker, Waiting, heard, open_clocks, stamp_of, take_record,
+    take_rest,
 };
 
 /// An engine and what stands between it and a log: the reader of lines by a source, its clocks with the records that wait, and the
@@ -30,6 +33,8 @@ pub struct Intake {
     taken: u64,
     // Those that were no event.
     faults: u64,
+    // The records that were left out.
+    doubles: u64,
 }
 
 impl Drop for Intake {
@@ -41,6 +46,7 @@ impl Drop for Intake {
             identifiers: _,
             taken: _,
             faults: _,
+            doubles: _,
         } = self;
     }
 }
@@ -57,8 +63,9 @@ impl Intake {
     ghost use Rattle.wsm_watermarks.specs.declared.stamp.Stamp.{Stamp as AnyStamp};
     ghost use Rattle.wsm_turns.specs.declared.clocks.Clocks.{Clocks as AnyClocks};
     ghost use Rattle.wsm_turns.specs.Clocks.{AreClocks};
+    ghost use Rattle.wsm_turns.specs.Heard.{left_by};
     ghost use Rattle.wsm_turns.specs.Turns.{Kept, turn_by};
-    ghost use Rattle.wsm_intake.specs.Intake.{Said, fault_count, fault_text, line_behind, turn_at};
+    ghost use Rattle.wsm_intake.specs.Intake.{Said, fault_count, fault_text, left_at, line_behind, turn_at};
     ghost use Rattle.wsm_intake.specs.Tells.{Serves};
     ghost use Rattle.wsm_intake.specs.Turns.{Ends, Fits, Goes, Holds, Turned, line_of, setting_by, spoken_read};
 
@@ -82,6 +89,7 @@ impl Intake {
             identifiers,
             taken: 0,
             faults: 0,
+            doubles: 0,
         })
     }
 
@@ -109,7 +117,7 @@ impl Intake {
     // The turn of the event that was read.
     fn serve(&mut self) -> Result<(), AllocError>
         ensures { (clocks : Option AnyClocks) (p : Program) (k : Kept) → Holds clocks p self.old k → length k.stamps < self.old.taken →
-            OnOk result (Goes clocks p self.old self.new k (turn_at (setting_by clocks p) k self.old.taken (Ok (spoken_read self.old.reader)))) }
+            OnOk result (Goes clocks p self.old self.new k (turn_at (setting_by clocks p) k self.old.taken (Ok (spoken_read self.old.reader))) (left_at (setting_by clocks p) k (Ok (spoken_read self.old.reader)))) }
     {
         match stamp_of(self.told.schema(), self.reader.event()) {
             Some(stamp) => self.serve_stamped(stamp),
@@ -121,7 +129,7 @@ impl Intake {
     fn serve_stamped(&mut self, stamp: Stamp) -> Result<(), AllocError>
         requires { stamp.time < 2 ^ 63 }
         ensures { (clocks : Option AnyClocks) (p : Program) (k : Kept) → Holds clocks p self.old k → length k.stamps < self.old.taken → stamp.clock < length p.header.schema.keys →
-            OnOk result (Goes clocks p self.old self.new k (turn_by (setting_by clocks p) k self.old.taken (Some stamp) (spoken_read self.old.reader))) }
+            OnOk result (Goes clocks p self.old self.new k (turn_by (setting_by clocks p) k self.old.taken (Some stamp) (spoken_read self.old.reader)) (left_by (Some stamp) (spoken_read self.old.reader).identifier k.memory)) }
     {
         let is_new = passes(
             self.reader.identifier(),
@@ -130,6 +138,7 @@ impl Intake {
             &mut self.identifiers,
         )?;
         if !is_new {
+            self.doubles = self.doubles.saturating_add(1);
             return Ok(());
         }
         take_record(
@@ -152,15 +161,28 @@ impl Intake {
     }
 
     /// Ends the turns: what waits is told. The bytes are then those behind all turns, with the last line, whose numbers are
-    /// answered.
-    pub fn end(&mut self) -> Result<Totals, AllocError>
+    /// answered, and what is counted beside them.
+    pub fn end(&mut self) -> Result<LogTotals, AllocError>
         ensures { (s : AnySource) (clocks : Option AnyClocks) (p : Program) (lines : List (List ℕ)) → Fits s clocks p self.old lines → IfOk result (Ends s clocks p self.new lines) }
     {
         self.told.lines.clear();
+        let counts = LogCounts {
+            doubles: self.doubles,
+            heard: heard(&self.waiting),
+        };
         take_rest(&self.waiting, &mut self.told)?;
         let totals = self.totals();
         end_text(totals, &mut self.told.lines)?;
-        Ok(totals)
+        Ok(LogTotals { totals, counts })
+    }
+
+    /// Tells a listener what the clocks have come to, where there are any and it is told after as many lines.
+    pub fn tell<L: Listener>(&self, listener: &mut L) {
+        if is_told(self.taken) {
+            if let Some(heard) = heard(&self.waiting) {
+                listener.hear(self.taken, heard);
+            }
+        }
     }
 
     /// Gives a device the bytes. Where it can't, it took a beginning of them and has failed.

@@ -1,10 +1,12 @@
 -- How a run over a log ends early.
-use Rattle.std.specs.Prelude.{◌≡◌, ℕ, List, Option}
+use Rattle.std.specs.Prelude.{◌≡◌, ℕ, List, Option, Result, Ok, Err}
 use Rattle.wsm_semantics.specs.Query.{Query}
+use Rattle.wsm_semantics.specs.declared.ending.Totals.{Totals}
 use Rattle.wsm_lines.specs.declared.source.Source.{Source}
 use Rattle.wsm_log_rows.specs.declared.end.LogEnd.{LogEnd}
 use Rattle.wsm_log_rows.specs.declared.end.LogEnd.TheVariants as log
 use Rattle.wsm_turns.specs.declared.clocks.Clocks.{Clocks}
+use Rattle.wsm_intake.specs.declared.totals.LogTotals.{LogTotals}
 use Rattle.wsm_intake.specs.Run.{LogBroken}
 use Rattle.wsm_inputs.specs.declared.end.End.{End}
 use Rattle.wsm_inputs.specs.declared.end.End.TheVariants.{Memory, ReadFailed, WriteFailed}
@@ -13,6 +15,11 @@ abbrev pub end_of_log : LogEnd → End
 end_of_log log.Memory = Memory
 end_of_log log.ReadFailed = ReadFailed
 end_of_log log.WriteFailed = WriteFailed
+
+-- how a run ended, with the numbers of its last line alone
+abbrev pub totals_in : Result LogTotals End → Result Totals End
+totals_in (Ok end) = Ok end.totals
+totals_in (Err why) = Err why
 
 -- a beginning of what the source and the query mean was written
 abbrev pub LogStops : Option (List ℕ) → Source → Option Clocks → Option (List ℕ) → Option (List ℕ) → Query → End → Type 0

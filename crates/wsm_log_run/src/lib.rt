@@ -5,5 +5,7 @@
 #![tactic(auto)]
 
 pub use run::{end_of_log, run_log};
+pub use wsm_intake::{Listener, LogCounts, LogTotals};
+pub use wsm_turns::Heard;
 
 mod run;

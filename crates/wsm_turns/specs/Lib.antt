@@ -2,6 +2,8 @@ pub mod Numbered
 pub mod Clocks
 pub mod Turns
 pub mod TurnRows
+pub mod Heard
+pub mod HeardRows
 pub mod Waits
 pub mod Noted
 pub mod Known

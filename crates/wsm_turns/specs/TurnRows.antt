@@ -9,7 +9,7 @@ use Rattle.wsm_turns.specs.Turns.{Said as AnySaid, Setting, at_end, kept, turn_o
 use Rattle.wsm_turns.specs.Numbered.{Numbered}
 
 -- two clocks agree, 20 behind and in steps of 10; a record that is more than 100 ahead waits, with room for so many
-abbrev clocks : ℕ → Clocks
+abbrev pub clocks : ℕ → Clocks
 clocks room = record { rule = record { agree = 2; forget = 1000; bound = 20; step = 10; start = 0 }; ahead = 100; room = room }
 
 -- KEYS a, b, c;
@@ -20,14 +20,14 @@ declared = record { keys = codes "a" ∷ codes "b" ∷ codes "c" ∷ []; fields 
 abbrev clock : Clock
 clock = record { start = pos 0; skew = pos 100; lateness = pos 10; from_window = false; records = pos 1000 }
 
-abbrev setting : Option Clocks → Setting
+abbrev pub setting : Option Clocks → Setting
 setting cs = record { clocks = cs; declared = declared; clock = clock; shape = Fixed (pos 60) }
 
-abbrev Said : Type 0
+abbrev pub Said : Type 0
 Said = AnySaid (Unit {0})
 
 -- a record of a key at a time
-abbrev r : ℕ → ℕ → Said
+abbrev pub r : ℕ → ℕ → Said
 r key time = Ok (record { event = Record (Some key) (pos time) []; identifier = None })
 
 abbrev rec : ℕ → ℕ → ℕ → Numbered
@@ -76,7 +76,7 @@ none_waits = refl
 -- ---- doubles
 
 -- the same with an identifier of one byte
-abbrev i : ℕ → ℕ → ℕ → Said
+abbrev pub i : ℕ → ℕ → ℕ → Said
 i byte key time = Ok (record { event = Record (Some key) (pos time) []; identifier = Some (byte ∷ []) })
 
 -- a double is left out, with another time and of another key too; what has no identifier goes on

@@ -6,13 +6,15 @@
 #![tactic(auto)]
 
 pub use clocks::{Clocks, clocks_of, mark_at, rule_of, stamp_of};
+pub use heard::Heard;
 pub use identifiers::Identifiers;
 pub use line_event::LineEvent;
 pub use taker::Taker;
-pub use waiting::{Waiting, open_clocks, take_mark, take_record, take_rest};
+pub use waiting::{Waiting, heard, open_clocks, take_mark, take_record, take_rest};
 pub use wsm_watermarks::{Rule, Stamp};
 
 mod clocks;
+mod heard;
 mod identifiers;
 mod line_event;
 mod passing;

@@ -6,11 +6,13 @@ ghost use Rattle.wsm_watermarks.specs.Held.{handed, is_near, last_mark, left, le
 ghost use Rattle.wsm_turns.specs.declared.clocks.Clocks.{Clocks as AnyClocks};
 ghost use Rattle.wsm_turns.specs.Numbered.{timed};
 ghost use Rattle.wsm_turns.specs.Clocks.{AreClocks, IsClocks};
+ghost use Rattle.wsm_turns.specs.Heard.{heard};
 ghost use Rattle.wsm_turns.specs.Turns.{Kept, numbered, start_of};
 ghost use Rattle.wsm_turns.specs.Waits.{Hear, Hears, Takes};
 ghost use Rattle.wsm_turns.specs.Noted.{Notes};
 
 use crate::clocks::{Clocks, mark_at};
+use crate::heard::Heard;
 use crate::line_event::LineEvent;
 use crate::taker::Taker;
 use std::alloc::{AllocError, Global};
@@ -33,6 +35,7 @@ impl Waiting {
     ghost use Rattle.wsm_record.specs.Event.{event_of};
     ghost use Rattle.wsm_turns.specs.declared.clocks.Clocks.{Clocks as AnyClocks};
     ghost use Rattle.wsm_turns.specs.Clocks.{IsClocks};
+    ghost use Rattle.wsm_turns.specs.Heard.{heard_by};
     ghost use Rattle.wsm_turns.specs.Turns.{Kept};
     ghost use Rattle.wsm_turns.specs.Waits.{Hear, Hears, Takes};
     ghost use Rattle.wsm_turns.specs.Noted.{Notes};
@@ -98,6 +101,18 @@ impl Waiting {
         let last = let_go(&mut self.held, &self.marks, 0, self.told, number, taker)?;
         self.told = last.max(mark);
         Ok(())
+    }
+
+    // What the clocks come to. All of them are looked at.
+    fn heard(&self) -> Heard
+        ensures { (c : AnyClocks) (count : ℕ) (k : Kept) → Hears c count self.now k.stamps k.told k.waits → result ≡ heard_by c k.stamps (length k.waits) }
+    {
+        Heard {
+            agree: self.marks.agree(),
+            voices: self.marks.voices(),
+            stamps: self.marks.heard(),
+            waiting: self.held.rows().len(),
+        }
     }
 
     // Hands on what waits, the earliest first.
@@ -169,6 +184,16 @@ pub fn take_mark<T: Taker>(
     match waiting {
         Some(waiting) => waiting.note(mark, number, taker),
         None => Ok(()),
+    }
+}
+
+/// What the clocks come to, where there are any. All of them are looked at.
+pub fn heard(waiting: &Option<Waiting>) -> Option<Heard>
+    ensures { (clocks : Option AnyClocks) (count : ℕ) (k : Kept) → Hear clocks count waiting.now k.stamps k.told k.waits → result ≡ heard clocks k }
+{
+    match waiting {
+        Some(waiting) => Some(waiting.heard()),
+        None => None,
     }
 }
 

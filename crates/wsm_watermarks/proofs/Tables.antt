@@ -477,3 +477,39 @@ fits_alike k l past said heard fits = record {
   heard = heard ∙ fits.heard;
   said = λ c. ap (λ (os : List (Option Said)). get_or os c None) said ∙ fits.said c;
 }
+
+-- ---- how many speak
+
+-- a clock in front of those before it is one more
+counted_first : (since : ℕ) (said : List (Option Said)) (n : ℕ) → tellers 0 (speaking since 0 said n) ≡ counted since 0 said n
+counted_first since said zero = refl
+counted_first since said (suc n) = one (get_or said n None) (counted_first since said n)
+  where
+    itself : (m : ℕ) → nat_lt m m ≡ false
+    itself m = grind (arith, nat_tests)
+
+    least : (m : ℕ) → nat_le 0 m ≡ true
+    least m = grind (arith, nat_tests)
+
+    unheard_yet : has_told n 0 (speaking since 0 said n) ≡ false
+    unheard_yet = told_speaking since 0 said n 0 n ∙ ap (λ b. b && is_counted since 0 (get_or said n None)) (itself n)
+
+    two : (k : Said) (b : Bool) → tellers 0 (speaking since 0 said n) ≡ counted since 0 said n → tellers 0 (cond b (record { clock = n; time = k.time } ∷ speaking since 0 said n) (speaking since 0 said n)) ≡ cond b 1 0 + counted since 0 said n
+    two k false h = omega (arith, h)
+    two k true h =
+        let new : (nat_le 0 k.time && not (has_told n 0 (speaking since 0 said n))) ≡ true = λ i. least k.time i && not (unheard_yet i) in
+        let first : tellers 0 (record { clock = n; time = k.time } ∷ speaking since 0 said n) ≡ suc (tellers 0 (speaking since 0 said n)) = ap (λ b. cond b (suc (tellers 0 (speaking since 0 said n))) (tellers 0 (speaking since 0 said n))) new in
+        omega (arith, first, h)
+
+    one : (o : Option Said) → tellers 0 (speaking since 0 said n) ≡ counted since 0 said n → tellers 0 (with_said since 0 n o (speaking since 0 said n)) ≡ cond (is_counted since 0 o) 1 0 + counted since 0 said n
+    one None h = omega (arith, h)
+    one (Some k) h = two k (is_counted since 0 (Some k)) h
+
+pub voices_counted : (k : Sayings) (past : List Stamp) (f : ℕ) → FitsTable k past → counted (k.heard - f) 0 k.said (length k.said) ≡ tellers 0 (voices f past)
+voices_counted k past f fits =
+    let all = speaking (k.heard - f) 0 k.said (length k.said) in
+    let same : (c : ℕ) → has_told c 0 all ≡ has_told c 0 (voices f past) = λ c. same_voices (record k { need = 0 }) past f c 0 (record { heard = fits.heard; said = fits.said }) in
+    let up = tellers_within 0 0 all (voices f past) (λ c told. sym (same c) ∙ told) in
+    let down = tellers_within 0 0 (voices f past) all (λ c told. same c ∙ told) in
+    let is = counted_first (k.heard - f) k.said (length k.said) in
+    omega (arith, up, down, is)

@@ -90,6 +90,13 @@ impl Table {
         self.ahead
     }
 
+    /// How many clocks spoke behind the stamp of a number. All clocks are looked at.
+    pub fn voices(&self, since: u64) -> usize
+        ensures { result ≡ counted since 0 self.now.said (length self.now.said) }
+    {
+        count_of(&self.said, since, 0)
+    }
+
     /// Takes note of a stamp.
     pub fn put(&mut self, stamp: Stamp)
         requires clock { stamp.clock < length self.old.said }

@@ -2,7 +2,7 @@
 
 ghost use Rattle.std.specs.Prelude.{◌≡◌, ◌+◌, ◌*◌, ◌/◌, ◌<◌, ◌≤◌, [], ◌∷◌, List, IfOk, length, max};
 ghost use Rattle.wsm_watermarks.specs.declared.stamp.Stamp.{Stamp as AnyStamp};
-ghost use Rattle.wsm_watermarks.specs.Agreement.{behind, raised_by};
+ghost use Rattle.wsm_watermarks.specs.Agreement.{behind, raised_by, tellers, voices};
 ghost use Rattle.wsm_watermarks.specs.Held.{mark_for};
 ghost use Rattle.wsm_watermarks.specs.Watermarks.{FitsMarks};
 
@@ -89,6 +89,22 @@ impl Watermarks {
         ensures { result ≡ self.now.table.heard }
     {
         self.table.heard()
+    }
+
+    /// How many clocks speak: those whose last stamp is among as many last ones as the rule forgets none of. All clocks are
+    /// looked at.
+    pub fn voices(&self) -> usize
+        ensures { (past : List AnyStamp) → FitsMarks self.now past → result ≡ tellers 0 (voices self.now.rule.forget past) }
+    {
+        let since = self.table.heard().saturating_sub(self.rule.forget);
+        self.table.voices(since)
+    }
+
+    /// How many clocks have to agree.
+    pub fn agree(&self) -> usize
+        ensures { result ≡ self.now.rule.agree }
+    {
+        self.rule.agree
     }
 
     /// Takes note of a watermark that is known without clocks: only a greater one is told behind it, as if

@@ -46,8 +46,8 @@ module _ (i : Input) (p : Program) (accepted : IsAccepted i p) (known : Option (
       (λ text q a end h. (h.0, h.1, log_broken text q a known s clocks old new h.0 h.2))
       p accepted old new flushed failed result well breaks leaves fails told
 
-pub returns-in-Err : goal.returns-in-Err
-returns-in-Err g c =
+pub returns-in-Err-clause-ends : goal.returns-in-Err-clause-ends
+returns-in-Err-clause-ends g c =
     let old = g.D.Device.taken c.args.out.now in
     let new = g.D.Device.taken c.run_log.new.out in
     let known = g.R.Read.remaining c.args.reader in
@@ -57,10 +57,10 @@ returns-in-Err g c =
     rw c.end_of_log.ensures (λ input accepted. ended input c.args.verified accepted known s c.args.clocks old new (g.D.Device.is_flushed c.run_log.new.out) (g.D.Device.has_failed c.run_log.new.out) (Err (end_of_log why))
     tt (why, refl, c.in-Err.ensures.ends_early) tt (λ h. failed (only_failed why (same_end (end_of_log why) WriteFailed (Err (end_of_log why)) refl h))) (apart why))
 
-pub returns-in-Ok : goal.returns-in-Ok
-returns-in-Ok g c = λ input accepted.
+pub returns-in-Ok-clause-ends : goal.returns-in-Ok-clause-ends
+returns-in-Ok-clause-ends g c = λ input accepted.
     let old = g.D.Device.taken c.args.out.now in
     let new = g.D.Device.taken c.run_log.new.out in
     let known = g.R.Read.remaining c.args.reader in
-    ended input c.args.verified accepted known c.args.source c.args.clocks old new (g.D.Device.is_flushed c.run_log.new.out) (g.D.Device.has_failed c.run_log.new.out) (Ok c.in-Ok.totals)
-    c.in-Ok.ensures.completes tt c.in-Ok.ensures.flushed (λ h. absurd (well_ended c.in-Ok.totals WriteFailed (Ok c.in-Ok.totals) refl h)) tt
+    ended input c.args.verified accepted known c.args.source c.args.clocks old new (g.D.Device.is_flushed c.run_log.new.out) (g.D.Device.has_failed c.run_log.new.out) (Ok c.in-Ok.totals.totals)
+    c.in-Ok.ensures.completes tt c.in-Ok.ensures.flushed (λ h. absurd (well_ended c.in-Ok.totals.totals WriteFailed (Ok c.in-Ok.totals.totals) refl h)) tt

@@ -18,4 +18,5 @@ returns c =
       reader = record { source = c.new.ensures.source; heading = c.new.ensures.heading };
       taken = refl;
       faults = refl;
+      doubles = refl;
     }

@@ -7,8 +7,9 @@ use Rattle.wsm_machine.specs.Meaning.{query_of}
 use Rattle.wsm_lines.specs.Reader.{Follows}
 use Rattle.wsm_lines.specs.Said.{identifier_of, said_of}
 use Rattle.wsm_intake.specs.declared.intake.Intake.{Intake}
+use Rattle.wsm_turns.specs.Heard.{left_count}
 use Rattle.wsm_turns.specs.Turns.{kept, spoken}
-use Rattle.wsm_intake.specs.Intake.{Said, fault_count, said, said_at, turn_at, turn_text}
+use Rattle.wsm_intake.specs.Intake.{Said, fault_count, left_at, said, said_at, turn_at, turn_text}
 use Rattle.wsm_intake.specs.Turns.{Goes, setting_by, spoken_read}
 use Rattle.wsm_intake.proofs.Counts.{one_more}
 use Rattle.wsm_turns.proofs.Stamps.{few_stamps}
@@ -34,14 +35,15 @@ returns-in-Ok c = λ s clocks p before fits.
     let mid : Intake = record old { told = record old.told { lines = c.clear.new.self }; reader = c.read.new.self; taken = c.in-Some.taken } in
     on_ok_weaker c.serve.result (λ goes.
     let new = c.serve.new.self in
-    let there : Goes clocks p mid new k (turn_at w k (length all + 1) (Ok x)) = subst (λ (n : ℕ). Goes clocks p mid new k (turn_at w k n (Ok x))) number goes in
-    let at : Goes clocks p mid new k (turn_at w k (length all + 1) (said_at s d before line)) = subst (λ (y : Said). Goes clocks p mid new k (turn_at w k (length all + 1) y)) (sym is) there in
+    let there : Goes clocks p mid new k (turn_at w k (length all + 1) (Ok x)) (left_at w k (Ok x)) = subst (λ (n : ℕ). Goes clocks p mid new k (turn_at w k n (Ok x)) (left_at w k (Ok x))) number goes in
+    let at : Goes clocks p mid new k (turn_at w k (length all + 1) (said_at s d before line)) (left_at w k (said_at s d before line)) = subst (λ (y : Said). Goes clocks p mid new k (turn_at w k (length all + 1) y) (left_at w k y)) (sym is) there in
     record {
       fits = record {
         holds = record { told = at.holds.told; waiting = at.holds.waiting; remembers = at.holds.remembers };
         reader = subst (λ (t : Intake). Follows s (line ∷ before) t.reader) (sym at.others) (c.in-Ok.ensures.follows s before fits.reader (λ h. cc));
         taken = ap (λ (t : Intake). t.taken) at.others ∙ number ∙ one_more (length all);
         faults = ap (λ (t : Intake). t.faults) at.others ∙ fits.faults ∙ ap (λ (y : Said). counter (fault_count (y ∷ all))) (sym is);
+        doubles = at.doubles (left_count w all) fits.doubles;
       };
       text = there.text ∙ ap (λ (l : List ℕ). l ++ turn_text (query_of p) clocks all (Ok x)) c.clear.ensures.items ∙ ap (turn_text (query_of p) clocks all) (sym is);
     }) (c.serve.ensures clocks p k (record { told = record { program = fits.holds.told.program; fits = fits.holds.told.fits }; waiting = fits.holds.waiting; remembers = fits.holds.remembers }) few)

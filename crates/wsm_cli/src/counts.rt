@@ -1,0 +1,53 @@
+//! What is told of a log on standard error.
+
+use std::io::Eprint;
+use wsm_log_run::{Heard, Listener, LogCounts};
+
+/// Tells that too few clocks of a log speak, while a run over it lasts.
+#[derive(Drop)]
+pub struct Teller<'r, R> {
+    rt: &'r R,
+}
+
+impl<'r, R: Eprint> Teller<'r, R> {
+    /// One that writes to standard error.
+    pub fn new(rt: &'r R) -> Teller<'r, R> {
+        Teller { rt }
+    }
+
+    /// Tells what a run left out, and what its clocks came to, where there is something to tell.
+    pub fn tell(&self, counts: LogCounts) {
+        let doubles = counts.doubles;
+        if doubles != 0 {
+            let _ = eprintln!(self.rt; "wsm: left out, since their identifier came before: {doubles}");
+        }
+        if let Some(heard) = counts.heard {
+            self.tell_heard(heard);
+        }
+    }
+
+    // The same of its clocks.
+    fn tell_heard(&self, heard: Heard) {
+        let waiting = heard.waiting;
+        if waiting != 0 {
+            let _ = eprintln!(self.rt; "wsm: waited for the clocks until the log ended: {waiting}");
+        }
+        if heard.voices < heard.agree {
+            self.tell_few(heard);
+        }
+    }
+
+    // That too few clocks speak.
+    fn tell_few(&self, heard: Heard) {
+        let (agree, voices) = (heard.agree, heard.voices);
+        let _ = eprintln!(self.rt; "wsm: of the {agree} clocks that have to agree {voices} speak, so no watermark rises");
+    }
+}
+
+impl<'r, R: Eprint> Listener for Teller<'r, R> {
+    fn hear(&mut self, _lines: u64, heard: Heard) {
+        if heard.voices < heard.agree {
+            self.tell_few(heard);
+        }
+    }
+}

@@ -1,0 +1,13 @@
+-- What is counted of a run over a log, beside the numbers of its last line.
+use Rattle.std.specs.Prelude.{ℕ, List, Option}
+use Rattle.wsm_admission.specs.Admission.{counter}
+use Rattle.wsm_semantics.specs.Query.{Query}
+use Rattle.wsm_turns.specs.declared.clocks.Clocks.{Clocks}
+use Rattle.wsm_turns.specs.Heard.{heard, left_count}
+use Rattle.wsm_turns.specs.Turns.{kept, setting_of}
+use Rattle.wsm_intake.specs.declared.totals.LogCounts.{LogCounts}
+use Rattle.wsm_intake.specs.Intake.{Said}
+
+-- how many records were left out, and what the clocks came to behind the last line
+abbrev pub counts_of : Query → Option Clocks → List Said → LogCounts
+counts_of q clocks lines = let w = setting_of clocks q in record { doubles = counter (left_count w lines); heard = heard clocks (kept w lines) }
