@@ -17,7 +17,7 @@ use wsm_engine::Totals;
 use wsm_lines::{LineFault, LineReader, LineRefusal, Source};
 use wsm_rules::Verified;
 use wsm_turns::{
-    Clocks, Identifiers, Stamp, Taker, Waiting, heard, open_clocks, stamp_of, take_record,
+    Clocks, Identifiers, Stamp, Taker, Waiting, clocks_heard, open_clocks, stamp_of, take_record,
     take_rest,
 };
 
@@ -168,7 +168,7 @@ impl Intake {
         self.told.lines.clear();
         let counts = LogCounts {
             doubles: self.doubles,
-            heard: heard(&self.waiting),
+            heard: clocks_heard(&self.waiting),
         };
         take_rest(&self.waiting, &mut self.told)?;
         let totals = self.totals();
@@ -179,7 +179,7 @@ impl Intake {
     /// Tells a listener what the clocks have come to, where there are any and it is told after as many lines.
     pub fn tell<L: Listener>(&self, listener: &mut L) {
         if is_told(self.taken) {
-            if let Some(heard) = heard(&self.waiting) {
+            if let Some(heard) = clocks_heard(&self.waiting) {
                 listener.hear(self.taken, heard);
             }
         }

@@ -10,7 +10,7 @@ pub use heard::Heard;
 pub use identifiers::Identifiers;
 pub use line_event::LineEvent;
 pub use taker::Taker;
-pub use waiting::{Waiting, heard, open_clocks, take_mark, take_record, take_rest};
+pub use waiting::{Waiting, clocks_heard, open_clocks, take_mark, take_record, take_rest};
 pub use wsm_watermarks::{Rule, Stamp};
 
 mod clocks;

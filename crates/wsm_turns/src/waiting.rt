@@ -188,7 +188,7 @@ pub fn take_mark<T: Taker>(
 }
 
 /// What the clocks come to, where there are any. All of them are looked at.
-pub fn heard(waiting: &Option<Waiting>) -> Option<Heard>
+pub fn clocks_heard(waiting: &Option<Waiting>) -> Option<Heard>
     ensures { (clocks : Option AnyClocks) (count : ℕ) (k : Kept) → Hear clocks count waiting.now k.stamps k.told k.waits → result ≡ heard clocks k }
 {
     match waiting {

@@ -21,5 +21,5 @@ returns c = λ s clocks p lines fits.
           ∙ ap (λ (l : List ℕ). l ++ line_text d (line_of c.totals-totals.result)) (told.text ∙ ap (λ (l : List ℕ). l ++ rest) c.clear.ensures.items)
           ∙ ap (λ (l : Line). rest ++ line_text d l) numbers;
       numbers = numbers;
-      counts = λ i. record { doubles = fits.doubles i; heard = c.heard.ensures clocks (length d.keys) k fits.holds.waiting i };
+      counts = λ i. record { doubles = fits.doubles i; heard = c.clocks_heard.ensures clocks (length d.keys) k fits.holds.waiting i };
     }
