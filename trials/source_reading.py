@@ -488,7 +488,7 @@ class Clocks:
     def few(self):
         """What is told where fewer clocks speak than have to agree."""
         speak = len(dict(self.stamps[-self.forget:]))
-        return f"wsm: of the {self.agree} clocks that have to agree {speak} speak, so no watermark rises\n" if speak < self.agree else ""
+        return f"wsm: no watermark rises: clocks that speak: {speak}, that must agree: {self.agree}\n" if speak < self.agree else ""
 
 
 # ---- worked cases, with answers by hand, from the standards, and from what the crates' definitions were computed to

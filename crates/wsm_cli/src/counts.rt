@@ -40,7 +40,7 @@ impl<'r, R: Eprint> Teller<'r, R> {
     // That too few clocks speak.
     fn tell_few(&self, heard: Heard) {
         let (agree, voices) = (heard.agree, heard.voices);
-        let _ = eprintln!(self.rt; "wsm: of the {agree} clocks that have to agree {voices} speak, so no watermark rises");
+        let _ = eprintln!(self.rt; "wsm: no watermark rises: clocks that speak: {voices}, that must agree: {agree}");
     }
 }
 
