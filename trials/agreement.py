@@ -1,0 +1,174 @@
+"""What a query is fed of a log by the agreement of clocks: an independent reading, for the trials that compare with it.
+
+It says from the words of docs/SOURCES.md alone which records and watermarks a query is fed, and in which order: what is left
+out as its identifier came before, what waits as it is too far ahead, and what goes on at the end. Lines are read by
+trials/source_reading.py.
+"""
+from dataclasses import dataclass, field
+from functools import cached_property
+
+from reference import Query, Stream
+from source_reading import LATEST, Source
+
+
+@dataclass
+class Rules:
+    """What a log is run by: what its query and its source say."""
+    keys: list
+    agree: int
+    bound: int
+    step: int
+    forget: int
+    room: int
+    start: int
+    skew: int
+    lateness: int
+    from_window: bool
+    size: int
+    period: int
+    window: str
+    records: int = 100000
+    most: int = 99  # of the field
+    format: str = "json"
+    has_clocks: bool = True
+    has_identifiers: bool = False
+
+    @cached_property
+    def query(self):
+        late = f"{self.lateness} FROM WINDOW" if self.from_window else self.lateness
+        return (f"KEYS {', '.join(self.keys)};\nFIELD n INT 0..{self.most};\n"
+                f"START {self.start}; SKEW {self.skew}; LATENESS {late}; RECORDS {self.records};\n"
+                f"SELECT COUNT(*), SUM(n)\nWINDOW {self.window}\nEMIT PANES;\n")
+
+    @cached_property
+    def source(self):
+        places = '[key]\nat = "key"\n[time]\nat = "at"\nform = "seconds"\n' if self.format != "rows" else ""
+        clock = (f"[clock]\nagree = {self.agree}\nbound = {self.bound}\nstep = {self.step}\n"
+                 f"forget = {self.forget}\nroom = {self.room}\n")
+        return (f'format = "{self.format}"\n{places}' + (clock if self.has_clocks else "")
+                + ('[identifier]\nat = "id"\n' if self.has_identifiers else ""))
+
+    def is_late(self, time, watermark):
+        """Whether a record of this time is late at a watermark."""
+        end = time // self.period * self.period + self.size if self.from_window else time
+        return end + self.lateness <= watermark if self.from_window else end + self.lateness < watermark
+
+    def behind(self, time):
+        """The watermark that a time raises."""
+        return max(time - self.bound, 0) // self.step * self.step
+
+
+@dataclass
+class Feeding:
+    """The rows that a query is fed, each with the number of its line, or none where it is a watermark."""
+    rules: Rules
+    rows: list = field(default_factory=list)
+    lines: list = field(default_factory=list)
+    faults: dict = field(default_factory=dict)  # the words of the lines that say no event
+    clocks: dict = field(default_factory=dict)  # when each spoke last, and the time that it told
+    stamps: int = 0
+    watermark: int = 0
+    waiting: list = field(default_factory=list)
+    late: list = field(default_factory=list)  # the lines of records that are fed late
+    identifiers: dict = field(default_factory=dict)  # of records that came, with their times
+    count: int = 0
+
+    def __post_init__(self):
+        self.watermark = self.rules.start
+        self.source = Source(self.rules.source, self.rules.query)
+
+    def feed(self, row, line):
+        self.rows.append(row)
+        self.lines.append(line)
+
+    def raise_to(self, mark):
+        if mark > self.watermark:
+            self.watermark = mark
+            self.feed(f"w,{min(mark, LATEST)}", None)
+
+    def go(self, time, line, row):
+        if self.rules.is_late(time, self.watermark):
+            self.late.append(line)
+        self.feed(row, line)
+
+    def agreed(self):
+        """The watermark of the time that enough clocks have come to."""
+        times = sorted(time for spoke, time in self.clocks.values() if spoke > self.stamps - self.rules.forget)
+        return self.rules.behind(times[-self.rules.agree]) if len(times) >= self.rules.agree else 0
+
+    def take(self, text):
+        """A line of the log."""
+        self.count += 1
+        said = self.source.read(text.encode())
+        if isinstance(said, str):
+            self.faults[self.count] = said
+            self.feed("unread", self.count)
+        elif not self.source.declared.fits(said):
+            self.feed(said.row(), self.count)
+        elif not self.is_double(said):
+            self.take_record(said)
+
+    def is_double(self, record):
+        """Whether a record's identifier came before, and hasn't been forgotten. It is remembered where it didn't."""
+        before = self.identifiers.get(record.identifier) if record.identifier is not None else None
+        if before is not None and not self.rules.is_late(before, self.watermark):
+            return True
+        if record.identifier is not None:
+            self.identifiers[record.identifier] = record.time
+        return False
+
+    def take_record(self, record):
+        if not self.rules.has_clocks:
+            self.go(record.time, self.count, record.row())
+            return
+        self.stamps += 1
+        self.clocks[record.key] = (self.stamps, record.time)
+        self.stamped(record.time, self.count, record.row())
+
+    def stamped(self, time, line, row):
+        """A record that told the time, with the watermark that is agreed on then."""
+        top = max(self.watermark, self.agreed())
+        far = top + self.rules.skew
+        for its, its_line, its_row in [one for one in self.waiting if one[0] <= far]:
+            self.raise_to(min(top, self.rules.behind(its)))
+            self.go(its, its_line, its_row)
+        self.waiting = [one for one in self.waiting if one[0] > far]
+        self.raise_to(top)
+        if time <= far:
+            self.go(time, line, row)
+            return
+        self.waiting.append((time, line, row))
+        self.waiting.sort(key=lambda one: one[0])  # those of one time stay as they came
+        if len(self.waiting) > self.rules.room:
+            self.go(*self.waiting.pop())
+
+    def end(self):
+        for one in self.waiting:
+            self.go(*one)
+        return self
+
+
+def fed_of(rules, lines):
+    """What a query is fed of a log."""
+    fed = Feeding(rules)
+    for line in lines:
+        fed.take(line)
+    return fed.end()
+
+
+def written_for(fed, by_rows):
+    """What a run over the log must write, by what one over the rows has written."""
+    *lines, end = by_rows.splitlines()
+    for number, line in enumerate(lines):
+        tag, *cells = line.split(",")
+        if tag == "refused":
+            at = fed.lines[int(cells[0]) - 1]
+            lines[number] = f"refused,{at},{fed.faults.get(at, cells[1])}"
+    _, _, admitted, late, refused, panes = end.split(",")
+    return [*lines, f"end,{fed.count},{admitted},{late},{refused},{panes}"]
+
+
+def must_write(rules, lines):
+    """What a run over a log must write, by trials/reference.py."""
+    fed = fed_of(rules, lines)
+    return written_for(fed, Stream(Query(rules.query)).text(fed.rows))
