@@ -72,6 +72,8 @@ class Feeding:
     late: list = field(default_factory=list)  # the lines of records that are fed late
     identifiers: dict = field(default_factory=dict)  # of records that came, with their times
     count: int = 0
+    doubles: int = 0  # records that were left out
+    told: list = field(default_factory=list)  # what is told on standard error
 
     def __post_init__(self):
         self.watermark = self.rules.start
@@ -99,13 +101,20 @@ class Feeding:
     def take(self, text):
         """A line of the log."""
         self.count += 1
+        self.take_line(text)
+        if self.count == 1000:
+            self.few()
+
+    def take_line(self, text):
         said = self.source.read(text.encode())
         if isinstance(said, str):
             self.faults[self.count] = said
             self.feed("unread", self.count)
         elif not self.source.declared.fits(said):
             self.feed(said.row(), self.count)
-        elif not self.is_double(said):
+        elif self.is_double(said):
+            self.doubles += 1
+        else:
             self.take_record(said)
 
     def is_double(self, record):
@@ -142,7 +151,18 @@ class Feeding:
         if len(self.waiting) > self.rules.room:
             self.go(*self.waiting.pop())
 
+    def few(self):
+        """What is told where fewer clocks speak than have to agree."""
+        speak = sum(spoke > self.stamps - self.rules.forget for spoke, _ in self.clocks.values())
+        if self.rules.has_clocks and speak < self.rules.agree:
+            self.told.append(f"wsm: no watermark rises: clocks that speak: {speak}, that must agree: {self.rules.agree}")
+
     def end(self):
+        if self.doubles:
+            self.told.append(f"wsm: left out, since their identifier came before: {self.doubles}")
+        if self.waiting:
+            self.told.append(f"wsm: waited for the clocks until the log ended: {len(self.waiting)}")
+        self.few()
         for one in self.waiting:
             self.go(*one)
         return self
