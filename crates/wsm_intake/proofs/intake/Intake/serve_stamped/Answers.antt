@@ -19,14 +19,14 @@ returns-then-not-is_new c = λ clocks p k holds few clock.
     let x = spoken_read old.reader in
     let passes : Passes w (watermark w k.fed) c.passes.new.identifiers x.identifier c.args.stamp.time k.memory c.in_ok-is_new.is_new =
     subst (λ (i : Option (List ℕ)). Passes w (watermark w k.fed) c.passes.new.identifiers i c.args.stamp.time k.memory c.in_ok-is_new.is_new) c.identifier.ensures (c.in_ok-is_new.ensures clocks p k holds.told holds.remembers) in
-    subst (λ (b : Bool). Goes clocks p old (record old { identifiers = c.passes.new.identifiers; doubles = c.saturating_add.result }) k (if b then record { goes = []; kept = k } else stamped w k old.taken c.args.stamp x) (if b then 1 else 0)) (sym (passes.answer ∙ ap not c.if-not-is_new.true)) (record {
+    subst (λ (b : Bool). Goes clocks p old (record old { identifiers = c.passes.new.identifiers; doubles = c.saturating_add-self.result }) k (if b then record { goes = []; kept = k } else stamped w k old.taken c.args.stamp x) (if b then 1 else 0)) (sym (passes.answer ∙ ap not c.if-not-is_new.true)) (record {
       holds = record {
         told = record { program = holds.told.program; fits = holds.told.fits };
         waiting = holds.waiting;
         remembers = passes.double c.if-not-is_new.true;
       };
       text = sym (append-nil old.told.lines.items);
-      doubles = λ n h. c.saturating_add.ensures ∙ one_more_fault old.doubles n h;
+      doubles = λ n h. c.saturating_add-self.ensures ∙ one_more_fault old.doubles n h;
       others = refl;
     })
 
