@@ -1,6 +1,6 @@
 -- A turn of what an engine keeps fits the history with its event, writes its rows and answers as the
 -- meaning does: the relation is read where changes against it are written, and nowhere else.
-use Rattle.std.proofs.Common.{◌≡◌, ℕ, ◌+◌, ◌≤◌, ◌++◌, List, [], ◌∷◌, map, length, ℤ, pos, ◌≤ℤ◌, Option, Some, None, IsTrue, refl, sym, ap, subst, ◌∙◌, arith}
+use Rattle.std.proofs.Common.{◌≡◌, ℕ, ◌+◌, ◌≤◌, ◌++◌, Bool, true, false, ◌&&◌, cond, is_none, List, [], ◌∷◌, map, length, ℤ, pos, ◌≤ℤ◌, Option, Some, None, IsTrue, refl, sym, ap, subst, ◌∙◌, arith}
 use Rattle.std.specs.Prelude.{Ok, Err, Result, IsSome, filter_map, sum}
 use Rattle.wsm_record.specs.declared.event.Value.{Value}
 use Rattle.wsm_record.specs.declared.cell.Cell.{Cell}
@@ -19,7 +19,7 @@ use Rattle.wsm_admission.specs.declared.verdict.Refusal.TheVariants as refusal
 use Rattle.wsm_admission.specs.Admission as admission
 use Rattle.wsm_admission.specs.Admission.{answer, after}
 use Rattle.wsm_semantics.specs.declared.out_row.OutRow.{OutRow}
-use Rattle.wsm_semantics.specs.Query.{mark, verdict_on}
+use Rattle.wsm_semantics.specs.Query.{Datum, Selects, Rises, Nothing, datum, effect_of, mark, raises, verdict_on}
 use Rattle.wsm_semantics.specs.Panes.{held}
 use Rattle.wsm_semantics.specs.Firings.{firings}
 use Rattle.wsm_semantics.specs.Retractions.{retracted_in}
@@ -32,7 +32,7 @@ use Rattle.wsm_semantics.proofs.MachineSteps.{decision-fits}
 use Rattle.wsm_semantics.proofs.Steps.{Fits-step, rows-step, fires-step}
 use Rattle.wsm_program.specs.Program.{Program, is_program}
 use Rattle.wsm_rules.proofs.Lawful.{lawful as program_lawful}
-use Rattle.wsm_machine.specs.Meaning.{query_of, plan_of, pane_cost, pane_cost_by, answer_cost}
+use Rattle.wsm_machine.specs.Meaning.{query_of, plan_of, selects, pane_cost, pane_cost_by, answer_cost}
 use Rattle.wsm_machine.proofs.QueryFolds.{plan_lawful, plan_runs}
 use Rattle.wsm_machine.proofs.CountedSessions.{sessions_by_event}
 use Rattle.wsm_machine.proofs.Costs.{step_cost_is, fired_costs_are}
@@ -42,8 +42,8 @@ use Rattle.wsm_engine.specs.State.{State}
 use Rattle.wsm_firing.specs.declared.tally.Tally.{Tally}
 use Rattle.wsm_firing.specs.Tally.{greatest, tally_of}
 use Rattle.wsm_firing.specs.Streams.{relation_kept}
-use Rattle.wsm_engine.specs.Meaning.{reply_to, Fits, IsRefused, KeepsRelation}
-use Rattle.wsm_engine.specs.Turn.{turn, refusal_of, reply_by}
+use Rattle.wsm_engine.specs.Meaning.{reply_to, selects_record, Fits, IsRefused, KeepsRelation}
+use Rattle.wsm_engine.specs.Turn.{turn, refusal_of, reply_by, selected_by}
 
 -- ---- with another relation
 
@@ -89,6 +89,29 @@ module _ (p : Program) (s : steps.State (List Value)) (r : List (List Cell)) whe
   relation_same form.Istream a now h is k = (λ i. relation_after (plan_of p) (query_of p) a (record s { relation = h tt i })) ∙ is
   relation_same form.Dstream a now h is k = (λ i. relation_after (plan_of p) (query_of p) a (record s { relation = h tt i })) ∙ is
   relation_same form.Rstream a now h is k = absurd k
+
+-- ---- what is selected
+
+selects_where : (b : Bool) (d : Datum) → b ≡ selects_record (cond b (Selects d) Nothing)
+selects_where true d = refl
+selects_where false d = refl
+
+selects_none : (b : Bool) (old new : ℤ) → false ≡ selects_record (cond b (Rises old new) Nothing)
+selects_none true old new = refl
+selects_none false old new = refl
+
+-- the answer by a verdict says whether a record is selected
+selects_by : (p : Program) (past : List Event) (m n : ℤ) (e : Event) (v : Option Refusal) → verdict_on (query_of p) past e ≡ v → selected_by p (answer m n e v) e ≡ selects_record (effect_of (query_of p) past e)
+selects_by p past m n (Record None t vs) None is = refl
+selects_by p past m n (Record None t vs) (Some r) is = refl
+selects_by p past m n (Record (Some k) t vs) None is =
+    let d : Datum = datum (length past) (mark (query_of p) past) k t vs in
+    selects_where (selects p k vs) d ∙ sym (ap (λ (v : Option Refusal). selects_record (cond (is_none v && selects p k vs) (Selects d) Nothing)) is)
+selects_by p past m n (Record (Some k) t vs) (Some r) is =
+    let d : Datum = datum (length past) (mark (query_of p) past) k t vs in
+    sym (ap (λ (v : Option Refusal). selects_record (cond (is_none v && selects p k vs) (Selects d) Nothing)) is)
+selects_by p past m n (Watermark o t) None is = selects_none (raises (query_of p) past (Watermark o t)) (mark (query_of p) past) (mark (query_of p) (Watermark o t ∷ past))
+selects_by p past m n (Watermark o t) (Some r) is = selects_none (raises (query_of p) past (Watermark o t)) (mark (query_of p) past) (mark (query_of p) (Watermark o t ∷ past))
 
 -- ---- the turn
 
@@ -142,6 +165,11 @@ module _ (s : State) (whole : IsTrue (is_program s.program)) (past : List Event)
         ap refusal_of (decision-fits (query_of s.program) s.machine.admission past e fits.clock fits.admission)
         ∙ told_reply (mark (query_of s.program) past) (mark (query_of s.program) (e ∷ past)) e (verdict_on (query_of s.program) past e)
 
+    turn_selects : (reply_by s e).selected ≡ selects_record (effect_of (query_of s.program) past e)
+    turn_selects =
+        ap (λ (a : Result Admitted Refusal). selected_by s.program a e) (decision-fits (query_of s.program) s.machine.admission past e fits.clock fits.admission)
+        ∙ selects_by s.program past (mark (query_of s.program) past) (mark (query_of s.program) (e ∷ past)) e (verdict_on (query_of s.program) past e) refl
+
     -- its firings with their costs
     same_firings : step_fires (plan_of s.program) (query_of s.program) s.machine e ≡ step_fires (plan_of s.program) (query_of s.program) told e
     same_firings = sym (fired_same s.program s.machine was answered e)
@@ -165,6 +193,7 @@ module _ (s : State) (whole : IsTrue (is_program s.program)) (past : List Event)
     pub turn_replies : reply_by s e ≡ reply_to s.program past e
     turn_replies = λ i. record {
       refusal = turn_refuses i;
+      selected = turn_selects i;
       record_steps = (same_cost answered e ∙ step_cost_is s.program whole told e past told_fits) i;
       fired = turn_fires i;
       pane_steps_max = greatest (turn_costs i);
@@ -254,12 +283,13 @@ comes_of s past fits h held m is timely a e next answered =
 
 -- what is answered after an answer is the reply of the turn
 pub replied_is : (s : State) (e : Event) (a : Result Admitted Refusal) → a ≡ answer_to (plan_of s.program) (query_of s.program) s.machine e →
-    (refused : Option Refusal) (cost : ℕ) (t : Tally) → refused ≡ refusal_of a → cost ≡ answer_cost s.program a e s.machine → t ≡ tally_of s.program (fired_by (plan_of s.program) (query_of s.program) a e s.machine)
-    → record { refusal = refused; record_steps = cost; fired = t.fired; pane_steps_max = t.steps_max; pane_steps_total = t.steps_total } ≡ reply_by s e
-replied_is s e a is refused cost t hr hc ht =
-    (λ i. record { refusal = hr i; record_steps = hc i; fired = (ht i).fired; pane_steps_max = (ht i).steps_max; pane_steps_total = (ht i).steps_total })
+    (refused : Option Refusal) (selected : Bool) (cost : ℕ) (t : Tally) → refused ≡ refusal_of a → selected ≡ selected_by s.program a e → cost ≡ answer_cost s.program a e s.machine → t ≡ tally_of s.program (fired_by (plan_of s.program) (query_of s.program) a e s.machine)
+    → record { refusal = refused; selected = selected; record_steps = cost; fired = t.fired; pane_steps_max = t.steps_max; pane_steps_total = t.steps_total } ≡ reply_by s e
+replied_is s e a is refused selected cost t hr hs hc ht =
+    (λ i. record { refusal = hr i; selected = hs i; record_steps = hc i; fired = (ht i).fired; pane_steps_max = (ht i).steps_max; pane_steps_total = (ht i).steps_total })
     ∙ (λ i. let fs = fired_by (plan_of s.program) (query_of s.program) (is i) e s.machine in record {
       refusal = refusal_of (is i);
+      selected = selected_by s.program (is i) e;
       record_steps = answer_cost s.program (is i) e s.machine;
       fired = length fs;
       pane_steps_max = greatest (map (pane_cost_by s.program) fs);

@@ -15,7 +15,7 @@ use Rattle.wsm_semantics.specs.Steps.{State, fired_by, panes_after, relation_aft
 use Rattle.wsm_semantics.specs.Summaries.{Fired, Pane, after_watermark, entered, fired_by_watermark, row_of, withdrawn_by_watermark, withdrawn_entering}
 use Rattle.wsm_semantics.specs.declared.out_row.OutRow.{OutRow}
 use Rattle.wsm_program.specs.Program.{Program}
-use Rattle.wsm_machine.specs.Meaning.{answer_cost, plan_of, query_of, record_cost_by}
+use Rattle.wsm_machine.specs.Meaning.{answer_cost, plan_of, query_of, record_cost_by, selects}
 use Rattle.wsm_panes.specs.Held.{entries_of}
 use Rattle.wsm_firing.specs.Streams.{Told, IsTold, relation_kept}
 use Rattle.wsm_firing.specs.Tally.{tally_of}
@@ -23,6 +23,7 @@ use Rattle.wsm_firing.specs.declared.operator.Arrival.{Arrival}
 use Rattle.wsm_firing.specs.declared.operator.WindowOperator.{WindowOperator}
 use Rattle.wsm_firing.specs.declared.tally.Tally.{Tally}
 use Rattle.wsm_engine.specs.declared.acting.Done.{Done}
+use Rattle.wsm_engine.specs.Turn.{selected_by}
 use Rattle.wsm_engine.specs.Operator.{Comes, IsAt, IsOf, fired_with, last_relation, panes_with, relation_at, rows_with, streamed_at, withdrawn_with}
 
 -- the panes that an operator holds, and the relation at the last instant
@@ -55,6 +56,7 @@ pub record Acts (p : Program) (mark : ℤ) (a : Result Admitted Refusal) (e : Ev
       relation_told new ≡ relation_kept p.header.form s.relation (relation_after (plan_of p) (query_of p) a s)
   pub rows : (s : State (List Value)) → IsAt mark old s → new.state.rows.written ≡ rows_by p a e s
   pub room : new.state.rows.room ≡ old.state.rows.room
+  pub selected : done.selected ≡ selected_by p a e
   pub cost : (s : State (List Value)) → IsAt mark old s → done.record_steps ≡ answer_cost p a e s
   pub tally : (s : State (List Value)) → IsAt mark old s → done.tally ≡ tally_of p (fired_by (plan_of p) (query_of p) a e s)
 
@@ -69,6 +71,7 @@ pub record TakesRecord (p : Program) (a : Arrival) (values : List Value) (old ne
   pub relation : relation_told new ≡ relation_told old
   pub rows : new.state.rows.written ≡ rows_with p (withdrawn_with p a.mark a.key a.time values (panes_of old)) (fired_of p a values old) []
   pub room : new.state.rows.room ≡ old.state.rows.room
+  pub selected : done.selected ≡ selects p a.key values
   pub cost : done.record_steps ≡ record_cost_by p (panes_of old) (datum 0 a.mark a.key a.time values)
   pub tally : done.tally ≡ tally_of p (fired_of p a values old)
 

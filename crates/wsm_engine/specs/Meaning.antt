@@ -1,12 +1,12 @@
 -- What an engine means: how it fits a history, and what it answers to the next event.
-use Rattle.std.specs.Prelude.{◌≡◌, ◌≤◌, List, [], ◌∷◌, map, length, sum, IsSome}
+use Rattle.std.specs.Prelude.{◌≡◌, ◌≤◌, Bool, true, false, List, [], ◌∷◌, map, length, sum, IsSome}
 use Rattle.wsm_record.specs.declared.words.Form.{Form}
 use Rattle.wsm_record.specs.declared.words.Form.TheVariants as form
 use Rattle.wsm_record.specs.Event.{Event}
 use Rattle.wsm_admission.specs.Clock.{admitted_count, late_count, refused_count}
 use Rattle.wsm_admission.specs.Admission as admission
 use Rattle.wsm_admission.specs.Admission.{counter}
-use Rattle.wsm_semantics.specs.Query.{Query, verdict_on}
+use Rattle.wsm_semantics.specs.Query.{Query, Effect, Selects, Rises, Nothing, effect_of, verdict_on}
 use Rattle.wsm_semantics.specs.Firings.{firings, firings_so_far}
 use Rattle.wsm_semantics.specs.Relation.{relation, turn_rows}
 use Rattle.wsm_semantics.specs.Kept.{kept}
@@ -18,10 +18,17 @@ use Rattle.wsm_engine.specs.declared.reply.Reply.{Reply}
 use Rattle.wsm_semantics.specs.declared.ending.Totals.{Totals}
 use Rattle.wsm_engine.specs.State.{State}
 
+-- an event selects a record
+abbrev pub selects_record : Effect → Bool
+selects_record (Selects d) = true
+selects_record (Rises old new) = false
+selects_record Nothing = false
+
 -- the reply of a program to an event after a history
 abbrev pub reply_to : Program → List Event → Event → Reply
 reply_to p past e = let q = query_of p in let costs = map (pane_cost p) (firings q past e) in record {
   refusal = verdict_on q past e;
+  selected = selects_record (effect_of q past e);
   record_steps = record_cost p past e;
   fired = length (firings q past e);
   pane_steps_max = greatest costs;

@@ -1,6 +1,6 @@
 //! What an event does to the panes that are held, by a program's sections.
 
-ghost use Rattle.std.specs.Prelude.{◌≡◌, List, [], length, true, pos, if◌then◌else◌};
+ghost use Rattle.std.specs.Prelude.{◌≡◌, List, [], length, true, false, pos, if◌then◌else◌};
 ghost use Rattle.wsm_record.specs.Event.{Event as AnyEvent, event_of};
 ghost use Rattle.wsm_semantics.specs.Replay.{datum};
 ghost use Rattle.wsm_machine.specs.Inputs.{inputs_of};
@@ -22,6 +22,8 @@ use wsm_windows::Window;
 /// What an event came to.
 #[derive(Clone, Copy)]
 pub struct Done {
+    /// Whether it is a record that was taken and that WHERE selects.
+    pub selected: bool,
     /// The instructions that the record is charged: WHERE's once, UPDATE's once for each window that it
     /// enters (it is run once), and one for each accumulator where two sessions are joined. The
     /// program's RECORD bounds it.
@@ -34,9 +36,10 @@ impl Done {
     // Of an event that puts no record into a pane and fires none.
     #[inline(always)]
     fn nothing() -> Done
-        ensures { result ≡ record { record_steps = 0; tally = nothing } }
+        ensures { result ≡ record { selected = false; record_steps = 0; tally = nothing } }
     {
         Done {
+            selected: false,
             record_steps: 0,
             tally: Tally::none(),
         }
@@ -73,6 +76,7 @@ pub fn act(
             _ => Done::nothing(),
         },
         Ok(Admitted::Watermark { old, new }) => Done {
+            selected: false,
             record_steps: 0,
             tally: take_watermark(operator, verified, old, new),
         },
@@ -102,6 +106,7 @@ fn take_record(
     let kept = operator.machine.keep(verified, &inputs);
     if !kept.keeps {
         return Done {
+            selected: false,
             record_steps: kept.steps,
             tally: Tally::none(),
         };
@@ -109,6 +114,7 @@ fn take_record(
     let (steps, alone) = enter_record(operator, verified, arrival.mark, arrival.time, &inputs);
     let tally = operator.fire_by_record(verified, arrival, alone);
     Done {
+        selected: true,
         record_steps: kept.steps + steps,
         tally,
     }

@@ -156,6 +156,13 @@ impl Engine {
         }
     }
 
+    /// The program that was run.
+    pub fn into_program(self) -> Verified
+        ensures { result ≡ self.program }
+    {
+        self.verified
+    }
+
     // The turn of an event, as a step of the machine that keeps a summary for each held pane.
     fn turn(&mut self, event: &Event, values_fit: bool) -> Reply
         requires { values_fit ≡ fits_declared self.old.program.header.schema (event_of event.now) }
@@ -176,6 +183,7 @@ impl Engine {
         self.fired = self.fired.saturating_add(done.tally.fired);
         Reply {
             refusal: refusal_of(answer),
+            selected: done.selected,
             record_steps: done.record_steps,
             fired: done.tally.fired,
             pane_steps_max: done.tally.steps_max,

@@ -7,6 +7,8 @@ use wsm_admission::Refusal;
 pub struct Reply {
     /// Why the event wasn't taken, if it wasn't.
     pub refusal: Option<Refusal>,
+    /// Whether it is a record that was taken and that WHERE selects.
+    pub selected: bool,
     /// The instructions that the record is charged: WHERE's once, UPDATE's once for each window that it
     /// enters (it is run once), and one for each accumulator where two sessions are joined. The
     /// program's RECORD bounds it.

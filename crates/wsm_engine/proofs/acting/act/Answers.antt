@@ -41,6 +41,7 @@ returns-in-Record-Some-default-default c =
       panes = λ s at. (simp to_z-of_z at (rw c.deref.ensures.value at c.take_record.ensures.panes)) ∙ panes_record p c.args.operator.now c.args.mark s at answer event h.key h.time h.values.items is ev;
       relation = λ s at. search rules;
       rows = λ s at. (simp to_z-of_z at (rw c.deref.ensures.value at c.take_record.ensures.rows)) ∙ rows_record p c.args.operator.now c.args.mark s at answer event h.key h.time h.values.items is ev;
+      selected = search rules;
       cost = λ s at. search rules;
       tally = λ s at. (simp to_z-of_z at (rw c.deref.ensures.value at c.take_record.ensures.tally)) ∙ ap (tally_of p) (fired_record p c.args.operator.now c.args.mark s at answer event h.key h.time h.values.items is ev);
     }
@@ -59,6 +60,7 @@ returns-in-Ok-Watermark c =
       panes = λ s at. (simp to_z-of_z at c.take_watermark.ensures.panes) ∙ panes_mark p c.args.operator.now c.args.mark s at answer event h.old h.new is;
       relation = λ s at. (simp to_z-of_z at c.take_watermark.ensures.relation) ∙ relation_mark p c.args.operator.now c.args.mark s at answer event h.old h.new is;
       rows = λ s at. (simp to_z-of_z at c.take_watermark.ensures.rows) ∙ rows_mark p c.args.operator.now c.args.mark s at answer event h.old h.new is;
+      selected = search rules;
       cost = λ s at. search rules;
       tally = λ s at. (simp to_z-of_z at c.take_watermark.ensures.tally) ∙ ap (tally_of p) (fired_mark p c.args.operator.now c.args.mark s at answer event h.old h.new is);
     }

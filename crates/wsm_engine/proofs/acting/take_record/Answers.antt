@@ -89,6 +89,7 @@ returns c =
           ∙ ap (λ (ps : Panes). turn_rows p (withdrawn_entering (plan_of p) p.header.shape d es ++ withdrawn_of_record p c.args.arrival.mark c.args.arrival.key c.args.arrival.time ps) (fires_by_record p c.args.arrival.mark c.args.arrival.key c.args.arrival.time ps)) there
           ∙ (λ i. turn_rows p (withdrawn_same p c.args.arrival.mark c.args.arrival.key c.args.arrival.time c.args.values.now es i) (fires_same p c.args.arrival.mark c.args.arrival.key c.args.arrival.time c.args.values.now es i))
           ∙ ap (λ (b : Bool). rows_with p (cond b (withdrawn_by_record (plan_of p) (query_of p) c.args.arrival.mark d es) []) (cond b (fired_by_record (plan_of p) (query_of p) c.args.arrival.mark d es) []) []) (sym chosen);
+      selected = sym chosen;
       cost = λ i. sym kept i + (steps ∙ ap (λ (b : Bool). cond b (entering_cost p c.args.arrival.mark c.args.arrival.key c.args.arrival.time c.args.values.now es) 0) (sym chosen)) i;
       tally =
           c.fire_by_record-tally.ensures.tally

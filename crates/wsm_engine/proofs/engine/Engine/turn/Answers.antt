@@ -93,4 +93,4 @@ returns-clause-reply c =
     let answered = answered (goal.at.returns-clause-reply c).After-decide_judged-answer in
     let here = marked (goal.at.returns-clause-reply c).After-act-done in
     let done = c.act-done.ensures in
-    rw (← c.self.view_is) (replied_is s e c.decide_judged-answer.result answered c.refusal_of.result c.act-done.result.record_steps c.act-done.result.tally c.refusal_of.ensures (done.cost s.machine here) (done.tally s.machine here))
+    rw (← c.self.view_is) (replied_is s e c.decide_judged-answer.result answered c.refusal_of.result c.act-done.result.selected c.act-done.result.record_steps c.act-done.result.tally c.refusal_of.ensures done.selected (done.cost s.machine here) (done.tally s.machine here))
