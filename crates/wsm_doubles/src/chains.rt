@@ -53,13 +53,13 @@ impl Chains {
         }
     }
 
-    // No hash, with so many buckets. They are used evenly where their number is a power of two.
+    // No hash, with so many buckets and room for as many hashes. The buckets are used evenly where their number is a power of two.
     pub(crate) fn with_buckets(alloc: Global, buckets: usize) -> Result<Chains, AllocError>
         ensures { IfOk result (λ c. c ≡ record { hashes = []; buckets = buckets }) }
     {
         Ok(Chains {
             heads: Vec::from_elem(alloc, 0u32, buckets)?,
-            links: Vec::new(alloc),
+            links: Vec::with_capacity(alloc, buckets)?,
         })
     }
 

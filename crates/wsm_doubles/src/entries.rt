@@ -1,6 +1,6 @@
 //! Identifiers with their times, behind one another.
 
-ghost use Rattle.std.specs.Prelude.{◌≡◌, ◌-◌, ◌<◌, ◌∷◌, ◌++◌, [], length, take, slice_index_or, OnOk, OnErr};
+ghost use Rattle.std.specs.Prelude.{◌≡◌, ◌-◌, ◌<◌, ◌∷◌, ◌++◌, [], length, take, slice_index_or, IfOk, OnOk, OnErr};
 ghost use Rattle.wsm_doubles.specs.Entries.{no_entry};
 
 use std::alloc::{AllocError, Global};
@@ -43,6 +43,16 @@ impl Entries {
             texts: Vec::new(alloc),
             spots: Vec::new(alloc),
         }
+    }
+
+    // No identifier, with room for so many, and for as many bytes as these here have.
+    pub(crate) fn empty_as(&self, alloc: Global, most: usize) -> Result<Entries, AllocError>
+        ensures { IfOk result (λ e. e ≡ []) }
+    {
+        Ok(Entries {
+            texts: Vec::with_capacity(alloc, self.texts.len())?,
+            spots: Vec::with_capacity(alloc, most)?,
+        })
     }
 
     #[inline(always)]

@@ -40,12 +40,12 @@ impl Table {
         }
     }
 
-    // No identifier, with so many buckets.
-    pub(crate) fn with_buckets(alloc: Global, buckets: usize) -> Result<Table, AllocError>
+    // No identifier, with so many buckets and room for as many identifiers, and for as many bytes as these here have.
+    fn empty_as(&self, alloc: Global, buckets: usize) -> Result<Table, AllocError>
         ensures { IfOk result (λ t. t ≡ record { entries = []; buckets = buckets }) }
     {
         Ok(Table {
-            entries: Entries::new(alloc),
+            entries: self.entries.empty_as(alloc, buckets)?,
             chains: Chains::with_buckets(alloc, buckets)?,
         })
     }
@@ -122,7 +122,7 @@ impl Table {
         requires { 0 < buckets }
         ensures { IfOk result (λ t. t ≡ record { entries = live moment.clock moment.shape moment.mark self.now.entries; buckets = buckets }) }
     {
-        let mut kept = Table::with_buckets(alloc, buckets)?;
+        let mut kept = self.empty_as(alloc, buckets)?;
         for number in 0..self.entries.len() {
             let time = self.entries.time(number);
             if !moment.is_late(time) {
