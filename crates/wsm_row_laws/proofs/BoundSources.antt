@@ -1,6 +1,6 @@
 -- A source that was bound to a query reads keys and values of what the query declares.
-use Rattle.std.proofs.Common.{◌≡◌, ℕ, suc, ◌+◌, ◌<◌, ◌≤◌, Bool, true, false, ◌&&◌, List, [], ◌∷◌, ◌++◌, length, Option, Some, None, Ok, Err, refl, sym, subst, append_assoc, append-nil, add-one, arith}
-use Rattle.std.specs.Prelude.{ℤ, negsuc, pos, Result, IfOk, IfSome, if◌then◌else◌, ◌==◌, ◌||◌, bytes_eq, codes, int_le, is_some, position, unwrap_or, ⊤}
+use Rattle.std.proofs.Common.{◌≡◌, ℕ, ◌+◌, ◌<◌, ◌≤◌, Bool, true, false, ◌&&◌, List, [], ◌∷◌, ◌++◌, length, Option, Some, None, Ok, Err, refl, sym, subst, append_assoc, append-nil, arith}
+use Rattle.std.specs.Prelude.{ℤ, negsuc, pos, Result, IfOk, IfSome, if◌then◌else◌, ◌==◌, ◌||◌, bytes_eq, codes, int_le, is_some, position, unwrap_or}
 use Rattle.std.proofs.lemmas.Bool.{and_parts}
 use Rattle.std.proofs.lemmas.Int.{ints}
 use Rattle.wsm_record.specs.declared.event.Value.{Value}
@@ -9,10 +9,7 @@ use Rattle.wsm_record.specs.Schema.{Declared, DeclaredField, FieldType, Int, Tru
 use Rattle.wsm_lines.specs.Entries.{added, entry_with, number_in, unless_there}
 use Rattle.wsm_lines.specs.Text.{unmarked}
 use Rattle.wsm_lines.specs.declared.source.Field.{Field}
-use Rattle.wsm_lines.specs.declared.source.KeyNames.{KeyNames}
-use Rattle.wsm_lines.specs.declared.source.Kind.{Kind}
 use Rattle.wsm_lines.specs.declared.source.Kind.TheVariants as kind
-use Rattle.wsm_lines.specs.declared.source.Source.{Source}
 use Rattle.wsm_lines.specs.declared.table.Entry.{Entry}
 use Rattle.wsm_values.specs.declared.zone.Zone.{Zone}
 use Rattle.wsm_description.specs.declared.description.DecimalDescription.{DecimalDescription}
@@ -38,7 +35,6 @@ use Rattle.wsm_source.specs.KeyBinding.{key_form, key_names, key_number, other_n
 use Rattle.wsm_source.specs.Names.{at_start, bad_line, begun, behind_quotes, behind_return, end_line, finish, in_key, in_plain, in_quotes, names_from, names_of, step, with_entry}
 use Rattle.wsm_source.specs.NamesRead.{NamesRead}
 use Rattle.wsm_source.specs.Places.{identifier_place, place_of}
-use Rattle.wsm_source.specs.declared.names_part.Within.{Within}
 use Rattle.wsm_source.specs.declared.names_part.Within.TheVariants.{Start, Plain, Quotes, Closed, Key, Return}
 use Rattle.wsm_row_laws.specs.SaidRows.{is_of_type}
 use Rattle.wsm_row_laws.proofs.ReadRows.{fields_listed, rest_listed, type_listed}

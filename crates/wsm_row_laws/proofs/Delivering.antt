@@ -1,5 +1,5 @@
 -- Without clocks a run feeds what passes of the deliveries.
-use Rattle.std.proofs.Common.{◌≡◌, ◌∙◌, ℕ, ◌+◌, Bool, true, false, ◌&&◌, List, [], ◌∷◌, ◌++◌, length, ℤ, pos, Option, Some, None, Ok, Err, refl, sym, ap, subst, arith}
+use Rattle.std.proofs.Common.{◌≡◌, ◌∙◌, ℕ, ◌+◌, Bool, true, false, ◌&&◌, List, [], ◌∷◌, ◌++◌, length, ℤ, pos, Option, Some, None, Ok, Err, refl, sym, ap, arith}
 use Rattle.std.proofs.lemmas.Bool.{and_parts}
 use Rattle.std.proofs.lemmas.Int.{ints}
 use Rattle.std.specs.Prelude.{if◌then◌else◌, unsigned_abs}
@@ -11,7 +11,7 @@ use Rattle.wsm_watermarks.specs.declared.stamp.Stamp.{Stamp}
 use Rattle.wsm_semantics.specs.Query.{Query}
 use Rattle.wsm_doubles.specs.Memory.{knows}
 use Rattle.wsm_doubles.specs.Passing.{TextPassing, passes, passing_texts}
-use Rattle.wsm_turns.specs.Turns.{Kept, Setting, Spoken, Turn, kept, setting_of, stamp_of, stamped, turn_by}
+use Rattle.wsm_turns.specs.Turns.{Kept, kept, setting_of, stamp_of, stamped, turn_by}
 use Rattle.wsm_intake.specs.Intake.{Said}
 use Rattle.wsm_row_laws.specs.Delivered.{AreSent, deliveries, delivery_of, seen}
 

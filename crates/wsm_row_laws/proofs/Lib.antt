@@ -5,3 +5,4 @@ pub mod SameTurns
 pub mod Sayable
 pub mod BoundSources
 pub mod Delivering
+pub mod ClockedSources

@@ -1,5 +1,5 @@
 -- Without clocks and identifiers a log's lines are the turns of their rows.
-use Rattle.std.proofs.Common.{◌≡◌, ◌∙◌, ℕ, suc, ◌+◌, ◌<◌, ◌≤◌, ◌^◌, List, [], ◌∷◌, ◌++◌, length, map, Option, Some, None, Result, Ok, Err, refl, sym, ap, append-nil, append_assoc, arith}
+use Rattle.std.proofs.Common.{◌≡◌, ◌∙◌, ℕ, ◌+◌, ◌<◌, ◌^◌, List, [], ◌∷◌, ◌++◌, length, map, Option, Some, None, Result, Ok, Err, refl, sym, ap, append-nil, append_assoc, arith}
 use Rattle.std.proofs.lemmas.List.{length-map}
 use Rattle.std.specs.Prelude.{codes, unsigned_abs}
 use Rattle.std.specs.Fmt.{decimal}
@@ -29,7 +29,7 @@ use Rattle.wsm_log_rows.specs.Rows.{Said}
 use Rattle.wsm_intake.specs.Intake as intake
 use Rattle.wsm_intake.specs.Intake.{end_text, event_text, events_text, fault_count, line_behind, turn_text}
 use Rattle.wsm_turns.specs.Numbered.{Numbered}
-use Rattle.wsm_row_laws.specs.SaidRows.{row_said, said}
+use Rattle.wsm_row_laws.specs.SaidRows.{row_said}
 use Rattle.wsm_row_laws.specs.SameRuns.{AreWithout, EndsAlike, WritesAlike, plain, refused_text}
 
 -- the event of a line goes on at its turn, alone

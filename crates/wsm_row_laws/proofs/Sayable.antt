@@ -1,14 +1,12 @@
 -- What lines say by a source that was bound to a query: of declared keys, with times of 64 bits and values of their fields' types.
-use Rattle.std.proofs.Common.{◌≡◌, ℕ, zero, suc, ◌+◌, ◌-◌, ◌<◌, ◌≤◌, ◌^◌, Bool, true, false, ◌&&◌, List, [], ◌∷◌, ◌++◌, length, Option, Some, None, Ok, Err, refl, sym, ap, subst, append_assoc, append-nil, arith}
-use Rattle.std.specs.Prelude.{ℤ, pos, negsuc, neg_ℤ, Result, IfOk, IfSome, if◌then◌else◌, bytes_eq, int_le, int_lt, nat_le, nat_lt, option_and_then, option_map, position, unsigned_abs, ⊤}
+use Rattle.std.proofs.Common.{◌≡◌, ℕ, zero, suc, ◌-◌, ◌<◌, ◌^◌, Bool, true, false, ◌&&◌, List, [], ◌∷◌, ◌++◌, length, Option, Some, None, Ok, Err, refl, sym, subst, append_assoc, append-nil, arith}
+use Rattle.std.specs.Prelude.{ℤ, pos, negsuc, neg_ℤ, Result, IfOk, IfSome, if◌then◌else◌, bytes_eq, int_lt, nat_le, nat_lt, option_and_then, option_map, position, ⊤}
 use Rattle.std.specs.Str.{is_utf8}
-use Rattle.std.specs.List.{starts_with}
-use Rattle.std.proofs.lemmas.Bool.{and_parts}
 use Rattle.std.proofs.lemmas.Bool.Decides.{nat_tests}
 use Rattle.std.proofs.lemmas.List.Quantifiers.{position-Some}
 use Rattle.wsm_record.specs.declared.event.Value.{Value}
 use Rattle.wsm_record.specs.declared.event.Value.TheVariants as values
-use Rattle.wsm_record.specs.Event.{Event, Record, Watermark}
+use Rattle.wsm_record.specs.Event.{Event, Record}
 use Rattle.wsm_record.specs.Schema.{Declared, DeclaredField, FieldType, Int, Truth, Enum, is_i64}
 use Rattle.wsm_values.specs.Decimal.{decimal_of, magnitude_of, plain, signed}
 use Rattle.wsm_values.specs.Time.{floor_to, in_word, instant_of, time_of}
@@ -36,11 +34,11 @@ use Rattle.wsm_row_laws.specs.SaidRows.{AreSayable, IsKey, IsSayable, are_of_typ
 
 -- ---- what holds of what there is
 
-if_ok : {A B : Type 0} (P : B → Type 0) (Q : A → Type 0) (r : Result A LineFault) (f : A → Result B LineFault) → IfOk r Q → ((a : A) → Q a → IfOk (f a) P) → IfOk (on_ok r f) P
+pub if_ok : {A B : Type 0} (P : B → Type 0) (Q : A → Type 0) (r : Result A LineFault) (f : A → Result B LineFault) → IfOk r Q → ((a : A) → Q a → IfOk (f a) P) → IfOk (on_ok r f) P
 if_ok P Q (Ok a) f q h = h a q
 if_ok P Q (Err why) f q h = tt
 
-any : {A : Type 0} (r : Result A LineFault) → IfOk r (λ a. ⊤)
+pub any : {A : Type 0} (r : Result A LineFault) → IfOk r (λ a. ⊤)
 any (Ok a) = tt
 any (Err why) = tt
 

@@ -1,7 +1,6 @@
 -- What a run over a log writes without clocks and identifiers, beside what a run over the rows of its lines writes.
 use Rattle.std.specs.Prelude.{◌≡◌, ◌+◌, ℕ, List, ◌++◌, length, map, None, Ok, Err, codes}
 use Rattle.std.specs.Fmt.{decimal}
-use Rattle.wsm_record.specs.declared.event.RowFault.TheVariants.{BadTag}
 use Rattle.wsm_record.specs.Event.{Event}
 use Rattle.wsm_record.specs.Schema.{Declared}
 use Rattle.wsm_semantics.specs.Query.{Query}

@@ -8,12 +8,16 @@ ghost use Rattle.wsm_description.specs.declared.description.Description.{Descrip
 ghost use Rattle.wsm_source.specs.Binding.{bound};
 ghost use Rattle.wsm_semantics.specs.Query.{Query};
 ghost use Rattle.wsm_log_rows.specs.Rows.{Said};
-ghost use Rattle.wsm_intake.specs.Intake.{Said as SaidWith};
+ghost use Rattle.wsm_turns.specs.declared.clocks.Clocks.{Clocks};
+ghost use Rattle.wsm_turn_laws.specs.Delivered.{CountOnce, EndsDeliveries, FeedsDeliveries, Suits};
+ghost use Rattle.wsm_intake.specs.Intake.{Said as SaidWith, said as said_with};
 ghost use Rattle.wsm_row_laws.specs.Delivered.{AreSent, PassesDeliveries};
 ghost use Rattle.wsm_row_laws.specs.SameRuns.{AreWithout, EndsAlike, WritesAlike};
 ghost use Rattle.wsm_row_laws.specs.SaidRows.{AreReadBack, AreSayable, said};
 
 use wsm_doubles::laws::passes_by_number;
+use wsm_lines::LineFault;
+use wsm_turn_laws::laws::feeds_deliveries;
 
 /// A run over the rows that are written for the lines of a log reads the events that the source means of these lines, in their
 /// order, and a row of no event for each line that says none. What lines say must be of the keys and the types that are
@@ -43,4 +47,14 @@ pub fn passes_deliveries()
     ensures { (q : Query) (lines : List SaidWith) → AreSent q.declared lines → PassesDeliveries q lines }
 {
     passes_by_number();
+}
+
+/// With clocks a run over the lines of a log feeds the query what passes of the records that the lines deliver, as each goes on
+/// (`feeds_deliveries` of `wsm_turn_laws`): a source's lines tell no watermark. So no record counts twice, whatever the clocks do.
+pub fn counts_deliveries()
+    ensures so_far { (s : Source) (q : Query) (c : Clocks) (lines : List (List ℕ)) → Suits c q → FeedsDeliveries q c (said_with s q.declared lines) }
+    ensures at_end { (s : Source) (q : Query) (c : Clocks) (lines : List (List ℕ)) → Suits c q → EndsDeliveries q c (said_with s q.declared lines) }
+    ensures once { (s : Source) (q : Query) (c : Clocks) (lines : List (List ℕ)) → Suits c q → CountOnce q c (said_with s q.declared lines) }
+{
+    feeds_deliveries::<LineFault>();
 }
