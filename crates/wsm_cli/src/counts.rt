@@ -19,7 +19,9 @@ impl<'r, R: Eprint> Teller<'r, R> {
     pub fn tell(&self, counts: LogCounts) {
         let doubles = counts.doubles;
         if doubles != 0 {
-            let _ = eprintln!(self.rt; "wsm: left out, since their identifier came before: {doubles}");
+            let _ = eprintln!(self.rt;
+                "wsm: left out, since their identifier came before: {doubles}"
+            );
         }
         if let Some(heard) = counts.heard {
             self.tell_heard(heard);
@@ -40,7 +42,9 @@ impl<'r, R: Eprint> Teller<'r, R> {
     // That too few clocks speak.
     fn tell_few(&self, heard: Heard) {
         let (agree, voices) = (heard.agree, heard.voices);
-        let _ = eprintln!(self.rt; "wsm: no watermark rises: clocks that speak: {voices}, that must agree: {agree}");
+        let _ = eprintln!(self.rt;
+            "wsm: no watermark rises: clocks that speak: {voices}, that must agree: {agree}"
+        );
     }
 }
 

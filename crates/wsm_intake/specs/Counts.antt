@@ -1,5 +1,5 @@
 -- What is counted of a run over a log, beside the numbers of its last line.
-use Rattle.std.specs.Prelude.{ℕ, List, Option}
+use Rattle.std.specs.Prelude.{List, Option}
 use Rattle.wsm_admission.specs.Admission.{counter}
 use Rattle.wsm_semantics.specs.Query.{Query}
 use Rattle.wsm_turns.specs.declared.clocks.Clocks.{Clocks}

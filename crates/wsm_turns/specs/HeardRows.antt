@@ -1,6 +1,5 @@
 -- Worked rows: what clocks come to, and how many records are left out. Lines are written oldest first.
-use Rattle.std.specs.Prelude.{◌≡◌, refl, ℕ, List, [], ◌∷◌, pos, reverse, Option, Some, None, Ok}
-use Rattle.wsm_record.specs.Event.{Record}
+use Rattle.std.specs.Prelude.{◌≡◌, refl, List, [], ◌∷◌, reverse, Option, Some, None}
 use Rattle.wsm_turns.specs.declared.clocks.Clocks.{Clocks}
 use Rattle.wsm_turns.specs.declared.heard.Heard.{Heard}
 use Rattle.wsm_turns.specs.TurnRows.{Said, clocks, i, r, setting}

@@ -1,9 +1,8 @@
-use Rattle.std.proofs.Common.{◌≡◌, ◌∙◌, ℕ, List, ap, length}
+use Rattle.std.proofs.Common.{◌≡◌, ◌∙◌, List, ap, length}
 use Rattle.wsm_watermarks.specs.Agreement.{tellers, voices}
 use Rattle.wsm_watermarks.specs.declared.held.Timed.{Timed}
 use Rattle.wsm_watermarks.specs.declared.rule.Rule.{Rule}
 use Rattle.wsm_turns.specs.Numbered.{Numbered}
-use Rattle.wsm_turns.specs.Heard.{heard_by}
 use Rattle.wsm_turns.proofs.waiting.Waiting.heard.Goals as goal
 
 pub returns : goal.returns
