@@ -1,6 +1,6 @@
 //! What cutting rows does with files, standard input and standard output.
 
-ghost use Rattle.std.specs.Prelude.{◌≡◌, false, IfOk};
+ghost use Rattle.std.specs.Prelude.{◌≡◌, false};
 
 use crate::deals::number_of;
 use crate::jobs::{end_of, input_of, read};
@@ -22,9 +22,7 @@ const OWNER_ALONE: u32 = 0o600;
 
 // By what rows are cut, and which.
 struct Wanted {
-    // The program, and once more.
     verified: Verified,
-    twin: Verified,
     sum: u64,
     taken: Option<u64>,
     most: u64,
@@ -37,12 +35,9 @@ impl Wanted {
         alloc: Global,
         is_whole: bool,
         rows: &mut Rows<R>,
-    ) -> Result<Cut, KeepEnd>
-        requires { self.twin ≡ self.verified }
-    {
+    ) -> Result<Cut, KeepEnd> {
         let Wanted {
             verified,
-            twin,
             sum,
             taken,
             most: _,
@@ -52,7 +47,7 @@ impl Wanted {
             taken,
             is_whole,
         };
-        cut_rows(alloc, verified, twin, asked, rows)
+        cut_rows(alloc, verified, asked, rows)
     }
 }
 
@@ -60,7 +55,6 @@ impl Drop for Wanted {
     fn drop(self) {
         let Wanted {
             verified: _,
-            twin: _,
             sum: _,
             taken: _,
             most: _,
@@ -113,13 +107,9 @@ fn wanted_of<R: Files + AllocGlobal>(
     query: &String,
     taken: Option<u64>,
     most: Option<u64>,
-) -> Result<Wanted, End>
-    ensures { IfOk result (λ wanted. wanted.twin ≡ wanted.verified) }
-{
+) -> Result<Wanted, End> {
     let bytes = read(rt, query)?;
-    let input = input_of(program, &bytes);
-    let verified = accepted_of(rt.alloc(), input)?;
-    let twin = accepted_of(rt.alloc(), input)?;
+    let verified = accepted_of(rt.alloc(), input_of(program, &bytes))?;
     let sum = if program {
         sum_of_program(rt.alloc(), &bytes)?
     } else {
@@ -127,7 +117,6 @@ fn wanted_of<R: Files + AllocGlobal>(
     };
     Ok(Wanted {
         verified,
-        twin,
         sum,
         taken,
         most: most.unwrap_or(u64::MAX),
@@ -135,9 +124,7 @@ fn wanted_of<R: Files + AllocGlobal>(
 }
 
 // Cuts standard input to standard output.
-fn keep_input<R: AllocGlobal + Input + Print + Eprint>(rt: &R, wanted: Wanted) -> Result<(), Stop>
-    requires { wanted.twin ≡ wanted.verified }
-{
+fn keep_input<R: AllocGlobal + Input + Print + Eprint>(rt: &R, wanted: Wanted) -> Result<(), Stop> {
     let is_whole = wanted.most == u64::MAX;
     let mut lines = WholeLines::new(rt.alloc(), rt.reader(), wanted.most)?;
     let head = cut_over(rt.alloc(), wanted, is_whole, &mut lines, io::writer(rt))?;
@@ -152,9 +139,7 @@ fn cut_over<I: Read + Drop, W: Write + Drop>(
     is_whole: bool,
     lines: &mut WholeLines<I>,
     out: W,
-) -> Result<Head, Stop>
-    requires { wanted.twin ≡ wanted.verified }
-{
+) -> Result<Head, Stop> {
     let Ok(out) = BufWriter::new(alloc, out) else {
         return Err(Stop::End(End::Memory));
     };
@@ -185,8 +170,7 @@ fn cut_lines<I: Read + Drop, D: Device>(
     lines: &mut WholeLines<I>,
     out: &mut D,
 ) -> Result<Head, KeepEnd>
-    requires twins { wanted.twin ≡ wanted.verified }
-    requires works { D.has_failed out.old ≡ false }
+    requires { D.has_failed out.old ≡ false }
 {
     let mut rows = Rows::new(alloc, lines);
     let cut = wanted.cut(alloc, is_whole, &mut rows)?;
@@ -231,9 +215,7 @@ fn keep_file<R: Files<File = File> + AllocGlobal + Eprint>(
     rt: &R,
     wanted: Wanted,
     name: &String,
-) -> Result<(), Stop>
-    requires { wanted.twin ≡ wanted.verified }
-{
+) -> Result<(), Stop> {
     let place = place_of(rt, name)?;
     let done = keep_at(rt, wanted, &place);
     if done.is_err() {
@@ -291,9 +273,7 @@ fn keep_at<R: Files<File = File> + AllocGlobal + Eprint>(
     rt: &R,
     wanted: Wanted,
     place: &Place,
-) -> Result<(), Stop>
-    requires { wanted.twin ≡ wanted.verified }
-{
+) -> Result<(), Stop> {
     let (file, was) = opened(rt, &place.path)?;
     let is_whole = was.len() <= wanted.most;
     let mut lines = WholeLines::new(rt.alloc(), file, wanted.most)?;

@@ -26,9 +26,7 @@ pub fits_over : (p : Program) (c : Cutter) (rows : List Written) (why : RowFault
 fits_over p c rows why text fits =
     let queues = fits.keeper.queues in
     record {
-      program = fits.program;
       lawful = fits.lawful;
-      follows = fits.follows;
       keeper = record {
         of = fits.keeper.of;
         queues = record {

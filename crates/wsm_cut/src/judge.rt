@@ -1,139 +1,60 @@
-//! What each event does: the verdict on it, and whether WHERE selects a record that is taken.
+//! What an event does, by what an engine replied to it.
 
-ghost use Rattle.std.specs.Prelude.{◌≡◌, ◌≤ℤ◌, List, [], ◌∷◌, Ok, pos};
-ghost use Rattle.wsm_record.specs.declared.limits.TheConstants.{LATEST_TIME};
-ghost use Rattle.wsm_record.specs.Event.{Event as AnyEvent, event_of};
-ghost use Rattle.wsm_admission.specs.declared.verdict.Admitted.TheVariants as admitted;
-ghost use Rattle.wsm_admission.specs.Clock.{fits_declared};
+ghost use Rattle.std.specs.Prelude.{◌≡◌, ◌∷◌, List, if◌then◌else◌, int_lt, Some, None};
+ghost use Rattle.wsm_record.specs.Event.{event_of};
+ghost use Rattle.wsm_semantics.specs.Query.{mark as mark_after};
+ghost use Rattle.wsm_program.specs.Program.{Program};
 ghost use Rattle.wsm_machine.specs.Meaning.{query_of};
+ghost use Rattle.wsm_engine.specs.Meaning.{reply_to};
 ghost use Rattle.wsm_keep.specs.Holds.{Written, read};
 ghost use Rattle.wsm_keep.specs.Staying.{events_in};
 ghost use Rattle.wsm_keep.specs.Keeper.{IsTold};
 ghost use Rattle.wsm_cut.specs.Judge as spec;
-ghost use Rattle.wsm_cut.specs.Judge.{CanSelect, Follows, IsTimed};
 
-use std::alloc::Global;
-use wsm_admission::{Admission, Admitted, Refusal};
+use wsm_engine::Reply;
 use wsm_keep::{Judged, What};
-use wsm_machine::{Inputs, Machine};
-use wsm_program::Program;
 use wsm_record::Event;
-use wsm_rules::Verified;
 
-/// What is kept of the events so far, for the verdict on the next.
-#[derive(Drop)]
-pub struct Judge {
-    verified: Verified,
-    admission: Admission,
-    machine: Machine,
-}
-
-impl Judge {
-    /// Before the first event.
-    pub fn open(alloc: Global, verified: Verified) -> Judge
-        ensures program { result.verified ≡ verified }
-        ensures timed { IsTimed result }
-        ensures follows { Follows result [] }
-    {
-        let header = verified.program().header();
-        let admission = Admission::new(header.clock, &header.schema);
-        Judge {
-            verified,
-            admission,
-            machine: Machine::open(alloc),
-        }
-    }
-
-    /// What the next event does, where whoever has read it knows whether its values fit.
-    pub fn judge(&mut self, event: &Event, values_fit: bool) -> Judged
-        requires timed { IsTimed self.old }
-        requires judged { values_fit ≡ fits_declared self.old.verified.header.schema (event_of event.now) }
-        ensures program { self.new.verified ≡ self.old.verified }
-        ensures timed { IsTimed self.new }
-        ensures follows { (past : List AnyEvent) → Follows self.old past → Follows self.new (event_of event.now ∷ past) }
-        ensures told { (rows : List Written) → Follows self.old (events_in read rows) → IsTold (query_of self.old.verified) rows (event_of event.now) result }
-    {
-        let header = self.verified.program().header();
-        let answer = self
-            .admission
-            .decide_judged(&header.schema, &header.shape, event, values_fit);
-        let mark = self.admission.mark();
-        let what = self.what_by(answer, event);
-        Judged {
-            what,
-            rise: rise_by(answer),
-            mark,
-        }
-    }
-
-    // What an event does by the answer to it.
-    fn what_by(&mut self, answer: Result<Admitted, Refusal>, event: &Event) -> What
-        requires { answer ≡ Ok admitted.Record → CanSelect self.old.verified (event_of event.now) }
-        ensures what { result ≡ spec.what_by self.old.verified (event_of event.now) answer }
-        ensures program { self.new.verified ≡ self.old.verified }
-        ensures admission { self.new.admission ≡ self.old.admission }
-    {
-        match answer {
-            Ok(Admitted::Record) => self.selected(event),
-            Ok(Admitted::Watermark { .. }) => accepted(event),
-            Err(_) => What::Idle,
-        }
-    }
-
-    // What a record does that is taken.
-    fn selected(&mut self, event: &Event) -> What
-        requires { CanSelect self.old.verified (event_of event.now) }
-        ensures what { result ≡ spec.what_selected self.old.verified (event_of event.now) }
-        ensures program { self.new.verified ≡ self.old.verified }
-        ensures admission { self.new.admission ≡ self.old.admission }
-    {
-        match event {
-            Event::Record {
-                key: Some(key),
-                time,
-                values,
-            } => {
-                let inputs = Inputs {
-                    key: *key,
-                    values,
-                    count: 0,
-                    accs: &[],
-                };
-                if self.machine.keep(&self.verified, &inputs).keeps {
-                    What::Selected(*key, *time)
-                } else {
-                    What::Idle
-                }
-            }
-            _ => What::Idle,
-        }
-    }
-
-    /// The program by which it judges.
-    pub fn program(&self) -> &Program
-        ensures { result.now ≡ self.now.verified }
-    {
-        self.verified.program()
-    }
-
-    /// The program, by itself.
-    pub fn into_program(self) -> Verified
-        ensures { result ≡ self.verified }
-    {
-        self.verified
-    }
-
-    /// The watermark.
-    pub fn mark(&self) -> i64
-        ensures mark { result ≡ self.now.admission.mark }
-        ensures from { pos 0 ≤ℤ result }
-        ensures to { result ≤ℤ LATEST_TIME }
-    {
-        self.admission.mark()
+/// What an event does, by what an engine of the program replied to it, the watermark before and that behind it.
+pub fn judge_event(event: &Event, reply: &Reply, before: i64, mark: i64) -> Judged
+    ensures { (p : Program) (rows : List Written) → reply.now ≡ reply_to p (events_in read rows) (event_of event.now)
+        → before ≡ mark_after (query_of p) (events_in read rows) → mark ≡ mark_after (query_of p) (event_of event.now ∷ events_in read rows)
+        → IsTold (query_of p) rows (event_of event.now) result }
+{
+    Judged {
+        what: what_by(reply, event),
+        rise: rise_between(before, mark),
+        mark,
     }
 }
 
-// What a watermark does that is accepted.
+fn what_by(reply: &Reply, event: &Event) -> What
+    ensures { result ≡ spec.what_by reply.now (event_of event.now) }
+{
+    if reply.selected {
+        selected(event)
+    } else if reply.refusal.is_none() {
+        accepted(event)
+    } else {
+        What::Idle
+    }
+}
+
+// What a record does that is selected.
+fn selected(event: &Event) -> What
+    ensures { result ≡ spec.what_selected (event_of event.now) }
+{
+    match event {
+        Event::Record {
+            key: Some(key),
+            time,
+            ..
+        } => What::Selected(*key, *time),
+        _ => What::Idle,
+    }
+}
+
+// What another event does that is taken.
 fn accepted(event: &Event) -> What
     ensures { result ≡ spec.what_accepted (event_of event.now) }
 {
@@ -146,12 +67,9 @@ fn accepted(event: &Event) -> What
     }
 }
 
-// The watermark before, where the answer is that it rises.
-fn rise_by(answer: Result<Admitted, Refusal>) -> Option<i64>
-    ensures { result ≡ spec.rise_by answer }
+// The watermark before, where it rose.
+fn rise_between(before: i64, mark: i64) -> Option<i64>
+    ensures { result ≡ (if int_lt before mark then Some before else None) }
 {
-    match answer {
-        Ok(Admitted::Watermark { old, new }) if old < new => Some(old),
-        _ => None,
-    }
+    if before < mark { Some(before) } else { None }
 }

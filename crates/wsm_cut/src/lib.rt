@@ -1,9 +1,9 @@
-//! Cuts the rows of a program: each event is judged as a run would, and the rows that stay are those that what follows
-//! hangs on.
+//! Cuts the rows of a program: of what an engine replies to each event, what the event does, and of that the rows that stay,
+//! on which hangs what follows.
 #![tactic(auto)]
 
 pub use cutter::Cutter;
-pub use judge::Judge;
+pub use judge::judge_event;
 
 mod cutter;
 mod judge;

@@ -1,15 +1,17 @@
 -- A keeper's cut, and its end.
-use Rattle.std.proofs.Common.{◌≡◌, ℕ, List, [], ◌++◌, map, ◌-ℤ◌, Result, Ok, Err, OnOk, refl, sym, ap, subst, ◌∙◌}
+use Rattle.std.proofs.Common.{◌≡◌, ℕ, false, List, [], ◌++◌, map, ◌-ℤ◌, Result, Ok, Err, OnOk, refl, sym, ap, subst, ◌∙◌}
 use Rattle.std.proofs.lemmas.List.{map-append}
 use Rattle.std.specs.Prelude.{filter}
 use Rattle.wsm_semantics.specs.Query.{Query}
 use Rattle.wsm_semantics.specs.FromWatermark.{Times, dropped_time, dropped_times}
 use Rattle.wsm_keep.specs.declared.keeper.Keeper.{Keeper}
+use Rattle.wsm_keep.specs.declared.what.What.{What}
+use Rattle.wsm_keep.specs.declared.what.What.TheVariants.{Selected, Accepted, Idle}
 use Rattle.wsm_record.specs.declared.words.Form.{Form}
 use Rattle.wsm_record.specs.declared.words.Form.TheVariants.{Panes, Istream, Dstream, Rstream}
 use Rattle.wsm_keep.specs.Staying.{events_in, row_of, thinned, done_by, staying, staying_for, staying_for_panes}
 use Rattle.wsm_keep.specs.Holds.{Written, read, text_of, times_in, Holds}
-use Rattle.wsm_keep.specs.Keeper.{says_event, Fits, IsCut, IsOf, IsLawfulQuery, HasSettings}
+use Rattle.wsm_keep.specs.Keeper.{says_event, Fits, IsCut, IsOf, IsLawfulQuery, HasSettings, takes}
 use Rattle.wsm_keep.proofs.Thinning.{thinned_same}
 use Rattle.wsm_keep.proofs.Queues.{queue_decides, holds_cut, queue_staying}
 use Rattle.wsm_keep.proofs.Behind.{behind_texts}
@@ -82,6 +84,16 @@ with_most q k most rows fits = record {
     alone = fits.queues.alone;
   };
 }
+
+-- ---- a row that can't stay
+
+pub not_taken : (f : Form) (w : What) → takes f w ≡ false → (f ≡ Panes) × (w ≡ Idle)
+not_taken Panes Idle h = (refl, refl)
+not_taken Panes (Selected key time) h = absurd (cc)
+not_taken Panes (Accepted source) h = absurd (cc)
+not_taken Istream w h = absurd (cc)
+not_taken Dstream w h = absurd (cc)
+not_taken Rstream w h = absurd (cc)
 
 -- ---- where all went well
 

@@ -1,5 +1,6 @@
 -- What a keeper has of the rows so far.
-use Rattle.std.specs.Prelude.{◌≡◌, ℕ, List, [], ◌∷◌, ◌++◌, map, filter, Bool, ℤ, Option, Some, None, Ok, if◌then◌else◌}
+use Rattle.std.specs.Prelude.{◌≡◌, ℕ, List, [], ◌∷◌, ◌++◌, map, filter, Bool, true, false, ℤ, Option, Some, None, Ok, if◌then◌else◌}
+use Rattle.wsm_record.specs.declared.words.Form.{Form}
 use Rattle.wsm_record.specs.declared.words.Form.TheVariants.{Panes}
 use Rattle.wsm_record.specs.Event.{Event}
 use Rattle.wsm_windows.specs.Windows.{IsShape}
@@ -49,6 +50,11 @@ pub record HasSettings (old new : Keeper) : Type 0 where
   pub shape : new.shape ≡ old.shape
   pub lateness : new.lateness ≡ old.lateness
   pub form : new.form ≡ old.form
+
+-- where panes are written, a row that does nothing never stays
+abbrev pub takes : Form → What → Bool
+takes Panes Idle = false
+takes form what = true
 
 -- a row that does something, in front of others
 abbrev pub queued_if : What → List ℕ → List Queued → List Queued

@@ -1,12 +1,12 @@
 //! What is kept of the rows so far.
 
-ghost use Rattle.std.specs.Prelude.{◌≡◌, ◌∷◌, List, [], Ok, map, unwrap_or, pos, ◌-ℤ◌, ◌≤ℤ◌, IfOk, IfSome, OnOk};
+ghost use Rattle.std.specs.Prelude.{◌≡◌, ◌∷◌, ℕ, List, [], Ok, false, map, unwrap_or, pos, ◌-ℤ◌, ◌≤ℤ◌, IfOk, IfSome, OnOk};
 ghost use Rattle.wsm_record.specs.Event.{Event as AnyEvent};
 ghost use Rattle.wsm_windows.specs.Windows.{IsShape, IsSpan};
 ghost use Rattle.wsm_semantics.specs.Query.{Query, mark};
 ghost use Rattle.wsm_keep.specs.Staying.{row_of, staying};
 ghost use Rattle.wsm_keep.specs.Holds.{Written, read, text_of};
-ghost use Rattle.wsm_keep.specs.Keeper.{Fits, HasSettings, IsCut, IsLawfulQuery, IsTold, queue_at, queued_if, since_at};
+ghost use Rattle.wsm_keep.specs.Keeper.{Fits, HasSettings, IsCut, IsLawfulQuery, IsTold, queue_at, queued_if, since_at, takes as takes_what};
 
 use crate::cut::firsts_at;
 use crate::queue::Queue;
@@ -58,6 +58,23 @@ impl Keeper {
             before: start,
             most: FEW,
         }
+    }
+
+    /// Whether a row may stay whose event does this. Of another one no text is asked for.
+    pub fn takes(&self, what: What) -> bool
+        ensures { result ≡ takes_what self.now.form what }
+    {
+        !(self.form == Form::Panes && what == What::Idle)
+    }
+
+    /// Passes over the next row that is an event, which can't stay.
+    pub fn pass_over(&mut self, judged: Judged)
+        requires { takes_what self.old.form judged.what ≡ false }
+        ensures shape { self.new.shape ≡ self.old.shape }
+        ensures lateness { self.new.lateness ≡ self.old.lateness }
+        ensures fits { (q : Query) (rows : List Written) (e : AnyEvent) (text : List ℕ) → IsLawfulQuery q → Fits q self.old rows → IsTold q rows e judged → Fits q self.new ((Ok e, text) ∷ rows) }
+    {
+        self.before = judged.mark;
     }
 
     /// Takes the next row that is an event, with what is told of it.

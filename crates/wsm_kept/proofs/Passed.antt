@@ -1,5 +1,5 @@
 -- What a pass has with one row more.
-use Rattle.std.proofs.Common.{◌≡◌, inl, inr, ℕ, ◌+◌, ◌≤◌, ◌<◌, List, [], ◌∷◌, ◌++◌, Bool, true, false, length, map, take, Some, Ok, Err, refl, sym, ap, subst, ◌∙◌, length-append, arith}
+use Rattle.std.proofs.Common.{◌≡◌, inl, inr, ℕ, ◌+◌, ◌≤◌, ◌<◌, List, [], ◌∷◌, ◌++◌, Bool, true, false, length, map, take, Option, Some, None, Ok, Err, refl, sym, ap, subst, ◌∙◌, length-append, arith}
 use Rattle.std.specs.Prelude.{Result, IfOk, OnOk, codes}
 use Rattle.std.proofs.lemmas.Bool.{cases_lt}
 use Rattle.std.proofs.lemmas.List.{take-append-le, take_all}
@@ -14,6 +14,7 @@ use Rattle.wsm_program.specs.Program.{Program}
 use Rattle.wsm_machine.specs.Meaning.{query_of}
 use Rattle.wsm_csv.specs.Cells.{event_of_cells}
 use Rattle.wsm_csv.specs.Records.{AreAll}
+use Rattle.wsm_keep.specs.declared.keeper.Judged.{Judged}
 use Rattle.wsm_keep.specs.Holds.{Written, read, text_of}
 use Rattle.wsm_keep.specs.Staying.{is_event, staying}
 use Rattle.wsm_cut.specs.declared.cutter.Cutter.{Cutter}
@@ -30,7 +31,7 @@ use Rattle.wsm_kept.specs.Head.{BeginWith, no_head}
 use Rattle.wsm_kept.specs.Kept.{Cells, counts_of, in_place, kept_rows, rows_of, written}
 use Rattle.wsm_kept.specs.Pass.{Cuts, Fits, IsLimit, IsOf, Meets, Stops, Taken, line_count}
 use Rattle.wsm_kept.specs.Run as run
-use Rattle.wsm_kept.specs.Run.{no_counts}
+use Rattle.wsm_kept.specs.Run.{IsTurn, Tells, no_counts}
 use Rattle.wsm_kept.specs.Texts.{joined, rows_text}
 use Rattle.wsm_kept.proofs.Back.{all_in_place, unique}
 use Rattle.wsm_kept.proofs.RowLists.{length_rows, rows_of-more, written-more}
@@ -66,7 +67,7 @@ meets_more q head past row counts meets is own = λ h.
       | inr few ↦ ap (λ (rows : List Cells). counter (line_count q rows)) (take-append-le head.kept past (row ∷ []) few) ∙ meets (few_is head.kept (length past) few there)
     ]
 
-module _ (p : Program) (begun kept new : Pass) (r : Run) (is_kept : kept ≡ record begun { run = r; cutter = kept.cutter }) (is_new : new ≡ record kept { counts = kept.run.counts }) where
+module _ (p : Program) (begun kept new : Pass) (r : Run) (is_kept : kept ≡ record begun { run = r; cutter = kept.cutter; text = kept.text }) (is_new : new ≡ record kept { counts = kept.run.counts }) where
   same_run : new.run ≡ r
   same_run = ap (λ (s : Pass). s.run) (is_new ∙ ap (λ (s : Pass). record s { counts = s.run.counts }) is_kept)
 
@@ -97,6 +98,7 @@ module _ (p : Program) (begun kept new : Pass) (r : Run) (is_kept : kept ≡ rec
       record {
         run = subst (λ (s : Run). run.Fits p s (rows_of q all)) (sym same_run) rows;
         cuts = record {
+          program = ap (λ (s : Run). s.engine.program) same_run ∙ rows.engine.program;
           counts = counts;
           cutter = subst (λ (c : Cutter). cutter.Fits p c (written q all)) (sym same_cutter) cuts;
           head = subst (BeginWith all) (sym same_head) h.head;
@@ -110,8 +112,8 @@ module _ (p : Program) (begun kept new : Pass) (r : Run) (is_kept : kept ≡ rec
 
 -- ---- turns of a pass
 
-pub with_run : (p : Program) (pass : Pass) (r : Run) (past all : List Cells) → Cuts p pass past all → Cuts p (record pass { run = r }) past all
-with_run p pass r past all h = record { counts = h.counts; cutter = h.cutter; head = h.head; of = h.of; meets = h.meets; limit = h.limit; within = h.within }
+pub with_run : (p : Program) (pass : Pass) (r : Run) (past all : List Cells) → r.engine.program ≡ p → Cuts p pass past all → Cuts p (record pass { run = r }) past all
+with_run p pass r past all is h = record { program = is; counts = h.counts; cutter = h.cutter; head = h.head; of = h.of; meets = h.meets; limit = h.limit; within = h.within }
 
 true_false : true ≡ false → ⊥
 true_false e = cc e
@@ -151,6 +153,13 @@ kept_other p c past row e h =
     subst (cutter.Fits p c) (sym (written-more (query_of p) past row))
     (subst (λ (r : Row). cutter.Fits p c ((r, text) ∷ before)) (sym is) (fits_over p c before why text h))
 
+-- what is told of a row
+pub told_some : (q : Query) (before : List Written) (row : Row) (told : Option Judged) (judged : Judged) → told ≡ Some judged → Tells q before row told → IsTurn q before row judged
+told_some q before row told judged is tells = subst (Tells q before row) is tells
+
+pub told_none : (q : Query) (before : List Written) (row : Row) (told : Option Judged) → told ≡ None → Tells q before row told → is_event row ≡ false
+told_none q before row told is tells = subst (Tells q before row) is tells
+
 no_lines : (lines most : ℕ) → lines ≡ 0 → lines ≤ most
 no_lines lines most e = omega (arith, e)
 
@@ -159,6 +168,7 @@ pub fits_none : (p : Program) (pass : Pass) → run.Fits p pass.run [] → pass.
 fits_none p pass rows counts head limit cutter = record {
   run = rows;
   cuts = record {
+    program = rows.engine.program;
     counts = counts;
     cutter = cutter;
     head = head;

@@ -37,12 +37,9 @@ IsLimit (Some taken) head most = (head.lines ≤ taken) × (most ≡ counter ((t
 
 -- ---- the rows so far
 
-pub record IsReady (pass : Pass) : Type 0 where
-  pub cutter : cutter.IsReady pass.cutter
-  pub same : pass.cutter.judge.verified ≡ pass.run.engine.program
-
 -- these rows are cut, where these were read
 pub record Cuts (p : Program) (pass : Pass) (past read : List Cells) : Type 0 where
+  pub program : pass.run.engine.program ≡ p
   pub counts : pass.counts ≡ counts_of (query_of p) (rows_of (query_of p) past)
   pub cutter : cutter.Fits p pass.cutter (written (query_of p) past)
   pub head : BeginWith read pass.head

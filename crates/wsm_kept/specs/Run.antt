@@ -1,17 +1,17 @@
 -- What a run that is counted keeps, and how it fits the rows so far.
-use Rattle.std.specs.Prelude.{◌≡◌, ℕ, Bool, false, List, Ok}
-use Rattle.std.specs.Bool.{MatchBool}
+use Rattle.std.specs.Prelude.{◌≡◌, ℕ, false, List, Option, Ok, MatchOption}
 use Rattle.wsm_record.specs.Event.{Event}
-use Rattle.wsm_record.specs.Schema.{Declared}
-use Rattle.wsm_admission.specs.Clock.{admitted_count, fits_declared}
+use Rattle.wsm_admission.specs.Clock.{admitted_count}
+use Rattle.wsm_semantics.specs.Query.{Query}
 use Rattle.wsm_semantics.specs.Lines.{Row, events}
 use Rattle.wsm_program.specs.Program.{Program}
 use Rattle.wsm_machine.specs.Meaning.{query_of}
 use Rattle.wsm_engine.specs.State.{State}
 use Rattle.wsm_engine.specs.Meaning as engine
-use Rattle.wsm_csv.specs.declared.event_reader.EventReader.{EventReader}
-use Rattle.wsm_csv.specs.EventReader.{event_read, fits_read}
+use Rattle.wsm_keep.specs.declared.keeper.Judged.{Judged}
+use Rattle.wsm_keep.specs.Holds.{Written}
 use Rattle.wsm_keep.specs.Staying.{is_event}
+use Rattle.wsm_keep.specs.Keeper.{IsTold}
 use Rattle.wsm_kept.specs.declared.counts.Counts.{Counts}
 use Rattle.wsm_kept.specs.declared.run.Run.{Run}
 use Rattle.wsm_kept.specs.Kept.{counts_of}
@@ -33,11 +33,12 @@ pub record Fits (p : Program) (run : Run) (before : List Row) : Type 0 where
   pub engine : EngineFits p run.engine (events before)
   pub counts : run.counts ≡ counts_of (query_of p) before
 
--- the event that was read last is the row's
-pub record IsRead (declared : Declared) (events : EventReader) (row : Row) : Type 0 where
-  pub event : row ≡ Ok (event_read events)
-  pub fits : fits_read events ≡ fits_declared declared (event_read events)
+-- a row behind others is an event, of which this is told
+pub record IsTurn (q : Query) (before : List Written) (row : Row) (judged : Judged) : Type 0 where
+  pub event : Event
+  pub is : row ≡ Ok event
+  pub told : IsTold q before event judged
 
--- it is told whether a row is an event
-abbrev pub Tells : Declared → EventReader → Row → Bool → Type 0
-Tells declared events row is = MatchBool is (IsRead declared events row) (is_event row ≡ false)
+-- of a row that is no event nothing is told
+abbrev pub Tells : Query → List Written → Row → Option Judged → Type 0
+Tells q before row told = MatchOption told (is_event row ≡ false) (IsTurn q before row)

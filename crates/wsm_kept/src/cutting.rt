@@ -4,7 +4,8 @@ ghost use Rattle.std.specs.Prelude.{◌≡◌, ◌∷◌, ◌++◌, ℕ, List, [
 ghost use Rattle.wsm_program.specs.Program.{Program};
 ghost use Rattle.wsm_machine.specs.Meaning.{query_of};
 ghost use Rattle.wsm_csv.specs.Rows.{Follows};
-ghost use Rattle.wsm_kept.specs.Pass.{Fits, IsAskedCut, IsReady, Passes};
+ghost use Rattle.wsm_cut.specs.Cutter.{IsReady};
+ghost use Rattle.wsm_kept.specs.Pass.{Fits, IsAskedCut, Passes};
 
 use crate::asked::Asked;
 use crate::cut::Cut;
@@ -15,8 +16,7 @@ use std::io::Read;
 use wsm_csv::Rows;
 use wsm_rules::Verified;
 
-/// Cuts rows of which none was read, by a program of which there are two. Each row is read once; a second run is over
-/// those that stay. Where not all are cut, the row that was read last is the first behind them: [`write_cut`] writes it and
+/// Cuts rows of which none was read. Each row is read once; a second run is over those that stay. Where not all are cut, the row that was read last is the first behind them: [`write_cut`] writes it and
 /// those behind it.
 ///
 /// [`write_cut`]: crate::write_cut
@@ -28,14 +28,12 @@ use wsm_rules::Verified;
 pub fn cut_rows<R: Read + Drop>(
     alloc: Global,
     verified: Verified,
-    twin: Verified,
     asked: Asked,
     rows: &mut Rows<R>,
 ) -> Result<Cut, KeepEnd>
-    requires { twin ≡ verified }
     ensures { (known : Option (List ℕ)) → Follows R.remaining known [] rows.old → IfOk result (IsAskedCut R.remaining known (query_of verified) asked rows.new) }
 {
-    let mut pass = Pass::open(alloc, verified, twin, asked)?;
+    let mut pass = Pass::open(alloc, verified, asked)?;
     let at_end = take_rows(alloc, &mut pass, rows)?;
     pass.finish(alloc, at_end)
 }
@@ -46,9 +44,9 @@ fn take_rows<R: Read + Drop>(
     pass: &mut Pass,
     rows: &mut Rows<R>,
 ) -> Result<bool, KeepEnd>
-    requires { IsReady pass.old }
+    requires { IsReady pass.old.cutter }
     ensures asked { pass.new.asked ≡ pass.old.asked }
-    ensures ready { IsReady pass.new }
+    ensures ready { IsReady pass.new.cutter }
     ensures passes { (known : Option (List ℕ)) (p : Program) → Follows R.remaining known [] rows.old → Fits p pass.old [] → IfOk result (Passes R.remaining known p pass.new rows.new) }
 {
     while rows.advance()? {

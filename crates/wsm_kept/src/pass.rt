@@ -13,12 +13,13 @@ use crate::counts::Counts;
 use crate::cut::Cut;
 use crate::end::KeepEnd;
 use crate::head::Head;
-use crate::row_text::text_of;
+use crate::row_text::put_text;
 use crate::run::Run;
 use crate::stay::{Stay, stay_of};
 use csv::ByteRecord;
 use std::alloc::Global;
 use wsm_cut::Cutter;
+use wsm_keep::Judged;
 use wsm_rules::Verified;
 
 /// What the rows so far come to.
@@ -26,6 +27,8 @@ pub struct Pass {
     // A run over the rows that are cut, and over the next one, where that isn't.
     run: Run,
     cutter: Cutter,
+    // The text of the row that was kept last.
+    text: Vec<u8>,
     // What a run over the rows that are cut comes to.
     counts: Counts,
     // What the first row says of those before it.
@@ -40,6 +43,7 @@ impl Drop for Pass {
         let Pass {
             run: _,
             cutter: _,
+            text: _,
             counts: _,
             head: _,
             most: _,
@@ -49,34 +53,30 @@ impl Drop for Pass {
 }
 
 impl Pass {
-    ghost use Rattle.std.specs.Prelude.{◌≡◌, ◌∷◌, ◌++◌, List, [], IfOk, OnOk, false, true};
+    ghost use Rattle.std.specs.Prelude.{◌≡◌, ◌∷◌, ◌++◌, List, [], Ok, IfOk, OnOk, false, true};
     ghost use Rattle.csv.specs.Records.{fields_of};
     ghost use Rattle.wsm_program.specs.Program.{Program};
     ghost use Rattle.wsm_machine.specs.Meaning.{query_of};
     ghost use Rattle.wsm_csv.specs.Cells.{event_of_cells};
     ghost use Rattle.wsm_cut.specs.Cutter as cutter;
     ghost use Rattle.wsm_kept.specs.Kept.{Cells, written};
-    ghost use Rattle.wsm_kept.specs.Pass.{Cuts, Fits, IsCutAs, IsReady, Taken};
-    ghost use Rattle.wsm_kept.specs.Run.{Tells};
+    ghost use Rattle.wsm_kept.specs.Pass.{Cuts, Fits, IsCutAs, Taken};
+    ghost use Rattle.wsm_kept.specs.Run.{IsTurn, Tells};
 
-    /// Before the first row, by a program of which there are two.
-    pub fn open(
-        alloc: Global,
-        verified: Verified,
-        twin: Verified,
-        asked: Asked,
-    ) -> Result<Pass, KeepEnd>
-        requires { twin ≡ verified }
-        ensures ready { IfOk result IsReady }
+    /// Before the first row.
+    pub fn open(alloc: Global, verified: Verified, asked: Asked) -> Result<Pass, KeepEnd>
+        ensures ready { IfOk result (λ pass. cutter.IsReady pass.cutter) }
         ensures asked { IfOk result (λ pass. pass.asked ≡ asked) }
         ensures fits { IfOk result (λ pass. Fits verified pass []) }
     {
         let head = Head::none();
         let most = most_of(asked.taken, &head)?;
-        let run = Run::open(alloc, twin)?;
+        let run = Run::open(alloc, verified)?;
+        let cutter = run.cutter(alloc);
         Ok(Pass {
             run,
-            cutter: Cutter::open(alloc, verified),
+            cutter,
+            text: Vec::new(alloc),
             counts: Counts::none(),
             head,
             most,
@@ -86,17 +86,17 @@ impl Pass {
 
     /// Takes the next row, and answers whether it is cut. Else the pass ends in front of it.
     pub fn take(&mut self, alloc: Global, row: &ByteRecord) -> Result<bool, KeepEnd>
-        requires { IsReady self.old }
+        requires { cutter.IsReady self.old.cutter }
         ensures asked { self.new.asked ≡ self.old.asked }
-        ensures ready { IsReady self.new }
+        ensures ready { cutter.IsReady self.new.cutter }
         ensures taken { (p : Program) (past : List Cells) → Fits p self.old past → IfOk result (Taken p self.new past (fields_of row.now)) }
     {
         self.begin(alloc, row)?;
-        let is_event = self.run.take(row)?;
+        let told = self.run.take(row)?;
         if self.most < self.run.counts().lines {
             return self.stop();
         }
-        self.keep(alloc, row, is_event)?;
+        self.keep(alloc, row, told)?;
         self.go_on()
     }
 
@@ -125,19 +125,35 @@ impl Pass {
         Ok(false)
     }
 
-    // Keeps a row that may stay.
-    fn keep(&mut self, alloc: Global, row: &ByteRecord, is_event: bool) -> Result<(), KeepEnd>
-        requires ready { IsReady self.old }
-        requires tells { Tells self.old.run.engine.program.header.schema self.old.run.events (event_of_cells self.old.run.engine.program.header.schema (fields_of row.now)) is_event }
-        ensures ready { IsReady self.new }
-        ensures cutter { (p : Program) (past : List Cells) → cutter.Fits p self.old.cutter (written (query_of p) past) → OnOk result (cutter.Fits p self.new.cutter (written (query_of p) (past ++ fields_of row.now ∷ []))) }
-        ensures others { self.new ≡ record self.old { cutter = self.new.cutter } }
+    // Keeps a row of which this is told, if it may stay.
+    fn keep(&mut self, alloc: Global, row: &ByteRecord, told: Option<Judged>) -> Result<(), KeepEnd>
+        requires { cutter.IsReady self.old.cutter }
+        ensures ready { cutter.IsReady self.new.cutter }
+        ensures cutter { (p : Program) (past : List Cells) → Tells (query_of p) (written (query_of p) past) (event_of_cells p.header.schema (fields_of row.now)) told
+            → cutter.Fits p self.old.cutter (written (query_of p) past) → OnOk result (cutter.Fits p self.new.cutter (written (query_of p) (past ++ fields_of row.now ∷ []))) }
+        ensures others { self.new ≡ record self.old { cutter = self.new.cutter; text = self.new.text } }
     {
-        if is_event {
-            let text = text_of(alloc, row)?;
-            self.cutter
-                .take(self.run.event(), self.run.values_fit(), text)?;
+        match told {
+            Some(judged) => self.keep_event(alloc, row, judged),
+            None => Ok(()),
         }
+    }
+
+    // Keeps the row of an event that does this, if it may stay.
+    fn keep_event(&mut self, alloc: Global, row: &ByteRecord, judged: Judged) -> Result<(), KeepEnd>
+        requires { cutter.IsReady self.old.cutter }
+        ensures ready { cutter.IsReady self.new.cutter }
+        ensures cutter { (p : Program) (past : List Cells) → IsTurn (query_of p) (written (query_of p) past) (event_of_cells p.header.schema (fields_of row.now)) judged
+            → cutter.Fits p self.old.cutter (written (query_of p) past) → OnOk result (cutter.Fits p self.new.cutter (written (query_of p) (past ++ fields_of row.now ∷ []))) }
+        ensures others { self.new ≡ record self.old { cutter = self.new.cutter; text = self.new.text } }
+    {
+        if !self.cutter.takes(judged.what) {
+            self.cutter.pass_over(judged);
+            return Ok(());
+        }
+        put_text(row, &mut self.text)?;
+        let text = self.text.as_slice().to_vec(alloc)?;
+        self.cutter.take(judged, text)?;
         Ok(())
     }
 
@@ -156,19 +172,19 @@ impl Pass {
 
     /// What stands in the place of the rows that are cut.
     pub fn finish(self, alloc: Global, at_end: bool) -> Result<Cut, KeepEnd>
-        requires { IsReady self }
+        requires { cutter.IsReady self.cutter }
         ensures { (p : Program) (past read : List Cells) → Cuts p self past read → IfOk result (IsCutAs (query_of p) self.asked self.head past at_end) }
     {
         let Pass {
             run,
             cutter,
+            text: _,
             counts,
             head,
             most: _,
             asked,
         } = self;
-        drop(run);
-        let stay = stay_of(alloc, cutter)?;
+        let stay = stay_of(alloc, run.into_program(), cutter)?;
         cut_by(alloc, asked, head, counts, &stay, at_end)
     }
 }

@@ -8,8 +8,9 @@ use csv::ByteRecord;
 use std::alloc::{AllocError, Global};
 use wsm_admission::Refusal;
 use wsm_csv::{EventReader, RowRefusal};
+use wsm_cut::{Cutter, judge_event};
 use wsm_engine::Engine;
-use wsm_record::Event;
+use wsm_keep::Judged;
 use wsm_rules::Verified;
 
 /// What the turns so far come to, of which no line is written.
@@ -30,13 +31,17 @@ impl Drop for Run {
 }
 
 impl Run {
-    ghost use Rattle.std.specs.Prelude.{◌≡◌, ◌+◌, ◌∷◌, List, [], Ok, IfOk, OnOk};
+    ghost use Rattle.std.specs.Prelude.{◌≡◌, ◌+◌, ◌∷◌, List, [], Ok, map, IfOk, OnOk};
     ghost use Rattle.csv.specs.Records.{fields_of};
-    ghost use Rattle.wsm_record.specs.Event.{Event as AnyEvent, event_of};
+    ghost use Rattle.wsm_record.specs.Event.{Event as AnyEvent};
     ghost use Rattle.wsm_admission.specs.Admission.{counter};
     ghost use Rattle.wsm_admission.specs.Clock.{fits_declared};
     ghost use Rattle.wsm_semantics.specs.Lines.{Row};
     ghost use Rattle.wsm_program.specs.Program.{Program};
+    ghost use Rattle.wsm_machine.specs.Meaning.{query_of};
+    ghost use Rattle.wsm_keep.specs.Holds.{Written, read};
+    ghost use Rattle.wsm_keep.specs.Keeper.{IsTold};
+    ghost use Rattle.wsm_cut.specs.Cutter as cutter;
     ghost use Rattle.wsm_csv.specs.Cells.{event_of_cells};
     ghost use Rattle.wsm_csv.specs.EventReader.{event_read, fits_read};
     ghost use Rattle.wsm_kept.specs.Run.{EngineFits, Fits, Tells, admitted_by};
@@ -56,36 +61,46 @@ impl Run {
         })
     }
 
-    /// Takes the turn of a row, and answers whether it is an event: then it is the one that was read last.
-    pub fn take(&mut self, row: &ByteRecord) -> Result<bool, AllocError>
+    /// What is kept of the rows of its program, before the first.
+    pub fn cutter(&self, alloc: Global) -> Cutter
+        ensures ready { cutter.IsReady result }
+        ensures fits { (p : Program) → Fits p self.now [] → cutter.Fits p result [] }
+    {
+        Cutter::open(alloc, self.engine.program(), self.engine.mark())
+    }
+
+    /// Takes the turn of a row, and tells what its event does, if it is one.
+    pub fn take(&mut self, row: &ByteRecord) -> Result<Option<Judged>, AllocError>
         ensures program { self.new.engine.program ≡ self.old.engine.program }
         ensures fits { (p : Program) (before : List Row) → Fits p self.old before → OnOk result (Fits p self.new (event_of_cells p.header.schema (fields_of row.now) ∷ before)) }
-        ensures tells { IfOk result (Tells self.old.engine.program.header.schema self.new.events (event_of_cells self.old.engine.program.header.schema (fields_of row.now))) }
+        ensures told { (p : Program) (before : List Written) → Fits p self.old (map read before) → IfOk result (Tells (query_of p) before (event_of_cells p.header.schema (fields_of row.now))) }
     {
         match self.events.read(self.engine.schema(), row) {
-            Ok(()) => {
-                self.feed();
-                Ok(true)
-            }
+            Ok(()) => Ok(Some(self.feed())),
             Err(RowRefusal::Fault(_)) => {
                 self.count(1);
-                Ok(false)
+                Ok(None)
             }
             Err(RowRefusal::Memory) => Err(AllocError),
         }
     }
 
-    // The turn of the event that was read by the engine's schema.
-    fn feed(&mut self)
+    // The turn of the event that was read by the engine's schema, and what it does.
+    fn feed(&mut self) -> Judged
         requires { fits_read self.old.events ≡ fits_declared self.old.engine.program.header.schema (event_read self.old.events) }
         ensures program { self.new.engine.program ≡ self.old.engine.program }
-        ensures events { self.new.events ≡ self.old.events }
         ensures fits { (p : Program) (before : List Row) → Fits p self.old before → Fits p self.new (Ok (event_read self.old.events) ∷ before) }
+        ensures told { (p : Program) (before : List Written) → Fits p self.old (map read before) → IsTold (query_of p) before (event_read self.old.events) result }
     {
+        let before = self.engine.mark();
         let values_fit = self.events.values_fit();
-        let reply = self.engine.feed_judged(self.events.event(), values_fit);
+        let event = self.events.event();
+        let reply = self.engine.feed_judged(event, values_fit);
+        let mark = self.engine.mark();
+        let judged = judge_event(event, &reply, before, mark);
         let written = self.engine.rows().len() as u64;
-        self.count(told(reply.refusal).saturating_add(written));
+        self.count(lines_of(reply.refusal).saturating_add(written));
+        judged
     }
 
     // Counts a row of which so many lines are written.
@@ -109,23 +124,21 @@ impl Run {
         self.counts
     }
 
-    /// The event that was read last.
-    pub fn event(&self) -> &Event
-        ensures { event_of result.now ≡ event_read self.now.events }
+    /// The program that was run.
+    pub fn into_program(self) -> Verified
+        ensures { result ≡ self.engine.program }
     {
-        self.events.event()
-    }
-
-    /// Whether its values fit.
-    pub fn values_fit(&self) -> bool
-        ensures { result ≡ fits_read self.now.events }
-    {
-        self.events.values_fit()
+        let Run {
+            engine,
+            events: _,
+            counts: _,
+        } = self;
+        engine.into_program()
     }
 }
 
 // How many lines tell of a refusal: none of a late record.
-fn told(refusal: Option<Refusal>) -> u64
+fn lines_of(refusal: Option<Refusal>) -> u64
     ensures { result ≡ length (refusal_lines 0 refusal) }
 {
     match refusal {

@@ -55,12 +55,12 @@ impl Stay {
     }
 }
 
-/// The rows that a cutter says stay.
-pub fn stay_of(alloc: Global, cutter: Cutter) -> Result<Stay, KeepEnd>
+/// The rows that a program's cutter says stay.
+pub fn stay_of(alloc: Global, verified: Verified, cutter: Cutter) -> Result<Stay, KeepEnd>
     requires { IsReady cutter }
-    ensures { (p : Program) (past : List Cells) → Fits p cutter (written (query_of p) past) → IfOk result (IsStay (query_of p) past) }
+    ensures { (past : List Cells) → Fits verified cutter (written (query_of verified) past) → IfOk result (IsStay (query_of verified) past) }
 {
-    let (queue, verified) = cutter.finish()?;
+    let queue = cutter.finish()?;
     let text = text_of(alloc, queue.items())?;
     drop(queue);
     let records = verified.program().header().clock.records.unsigned_abs();

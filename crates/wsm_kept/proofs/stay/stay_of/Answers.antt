@@ -17,22 +17,21 @@ size_fits : (n : ℤ) → pos 1 ≤ℤ n → n ≤ℤ pos 1000000000000 → SFit
 size_fits n low high = fits_signed_from_abs w64 n (grind (arith, ints, low, high))
 
 pub returns : goal.returns
-returns c = λ p past is.
+returns c = λ past is.
+    let p : Program = c.args.verified in
     let q : Query = query_of p in
-    let program : c.in_ok-queue.verified ≡ p = c.in_ok-queue.ensures.program ∙ is.program in
     let text : c.in_ok-text.text.items ≡ codes "kept\n" ++ rows_text (kept_rows q past) =
     c.in_ok-text.ensures
     ∙ ap (λ (items : List Queued). codes "kept\n" ++ joined (map row_of items)) c.items.ensures
-    ∙ text_kept q past (map row_of c.in_ok-queue.queue) (c.in_ok-queue.ensures.kept p (written q past) is) in
+    ∙ text_kept q past (map row_of c.in_ok-queue.queue) (c.in_ok-queue.ensures p (written q past) is) in
     let (cells, all, counts) = c.in_ok-own.ensures in
     let same : cells ≡ in_place q past = same_cells q past c.deref.result.now cells (c.deref.ensures.value ∙ text) all in
-    let header : header_of c.header.result.now ≡ p.header = c.header.ensures.header ∙ ap (λ (m : Program). m.header) (c.program.ensures.program ∙ program) in
+    let header : header_of c.header.result.now ≡ p.header = c.header.ensures.header ∙ ap (λ (m : Program). m.header) c.program.ensures.program in
     let good : IsLawful (header_of c.header.result.now) = lawful_seen c.program.result.now (header_of c.header.result.now) c.header.ensures.header c.header.ensures.lawful in
     let fits : SFits w64 c.header.result.now.clock.records = size_fits c.header.result.now.clock.records good.records.0 good.records.1 in
     record {
       text = text;
       own = counts
-          ∙ ap (λ (m : Program). counts_of (query_of m) (rows_of (query_of m) cells)) program
           ∙ ap (λ (rows : List Cells). counts_of q (rows_of q rows)) same;
       records = sym (c.unsigned_abs-records.ensures.value ∙ ap unsigned_abs (to_z-of_z fits) ∙ ap (λ (h : Header). unsigned_abs h.clock.records) header);
     }

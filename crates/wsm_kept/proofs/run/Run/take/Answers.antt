@@ -1,13 +1,13 @@
-use Rattle.std.proofs.Common.{◌≡◌, ◌∙◌, ◌∷◌, Ok, sym, ap, subst}
+use Rattle.std.proofs.Common.{◌≡◌, ◌∙◌, ◌∷◌, Ok, map, sym, ap, subst}
 use Rattle.csv.specs.Records.{fields_of}
 use Rattle.wsm_record.specs.Schema.{Declared}
 use Rattle.wsm_admission.specs.Clock.{fits_declared}
 use Rattle.wsm_semantics.specs.Lines.{Row}
 use Rattle.wsm_program.specs.Program.{Program}
 use Rattle.wsm_csv.specs.Cells.{event_of_cells}
-use Rattle.wsm_csv.specs.declared.event_reader.EventReader.{EventReader}
-use Rattle.wsm_csv.specs.EventReader.{event_read, fits_read}
-use Rattle.wsm_kept.specs.Run.{Fits, IsRead}
+use Rattle.wsm_csv.specs.EventReader.{event_read}
+use Rattle.wsm_keep.specs.Holds.{read}
+use Rattle.wsm_kept.specs.Run.{Fits}
 use Rattle.wsm_kept.proofs.run.Run.take.Goals as goal
 
 pub feed-requires : goal.feed-requires
@@ -22,11 +22,11 @@ returns-in-Ok-clause-fits c = λ p before fits.
     let is : event_of_cells p.header.schema cells ≡ Ok (event_read c.read.new.self) = ap (λ (d : Declared). event_of_cells d cells) (sym schema) ∙ c.in-Ok.ensures.event in
     subst (λ (r : Row). Fits p c.feed.new.self (r ∷ before)) (sym is) (c.feed.ensures.fits p before same)
 
-pub returns-in-Ok-clause-tells : goal.returns-in-Ok-clause-tells
-returns-in-Ok-clause-tells c =
-    let declared = c.args.self.now.engine.program.header.schema in
+pub returns-in-Ok-clause-told : goal.returns-in-Ok-clause-told
+returns-in-Ok-clause-told c = λ p before fits.
+    let mid = record c.args.self.now { events = c.read.new.self } in
     let cells = fields_of c.args.row.now in
-    let events = c.read.new.self in
-    let is : event_of_cells declared cells ≡ Ok (event_read events) = ap (λ (d : Declared). event_of_cells d cells) (sym c.schema.ensures) ∙ c.in-Ok.ensures.event in
-    let fits : fits_read events ≡ fits_declared declared (event_read events) = c.in-Ok.ensures.fits ∙ ap (λ (d : Declared). fits_declared d (event_read events)) c.schema.ensures in
-    subst (λ (e : EventReader). IsRead declared e (event_of_cells declared cells)) (sym c.feed.ensures.events) (record { event = is; fits = fits })
+    let same : Fits p mid (map read before) = record { engine = fits.engine; counts = fits.counts } in
+    let schema : c.schema.result.now ≡ p.header.schema = c.schema.ensures ∙ ap (λ (p : Program). p.header.schema) fits.engine.program in
+    let is : event_of_cells p.header.schema cells ≡ Ok (event_read c.read.new.self) = ap (λ (d : Declared). event_of_cells d cells) (sym schema) ∙ c.in-Ok.ensures.event in
+    record { event = event_read c.read.new.self; is = is; told = c.feed.ensures.told p before same }
