@@ -4,7 +4,7 @@
 #![tactic(auto)]
 
 pub use end::LogEnd;
-pub use rows::{RowWriter, write_rows};
+pub use rows::{RowWriter, add_event, write_rows};
 
 mod end;
 mod rows;

@@ -65,8 +65,12 @@ impl RowWriter {
     }
 }
 
-// The row of a record.
-fn add_event(schema: &Schema, event: &Event, out: &mut Vec<u8>) -> Result<(), AllocError>
+/// Adds the row of a record: `r,KEY,TIME` and a cell for each field.
+///
+/// # Errors
+///
+/// Memory was refused.
+pub fn add_event(schema: &Schema, event: &Event, out: &mut Vec<u8>) -> Result<(), AllocError>
     ensures { OnOk result (out.new.items ≡ out.old.items ++ event_row schema.now (event_of event.now)) }
 {
     match event {
