@@ -1,0 +1,7 @@
+pub mod Lines
+pub mod LineRows
+pub mod Turns
+pub mod TurnRows
+pub mod Handed
+pub mod Fits
+pub mod Run

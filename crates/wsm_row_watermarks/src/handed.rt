@@ -1,0 +1,195 @@
+//! What goes on, as rows.
+
+ghost use Rattle.wsm_admission.specs.Clock.{IsTimely};
+
+use crate::times::Times;
+use itoa::Buffer;
+use std::alloc::{AllocError, Global};
+use wsm_admission::Admission;
+use wsm_log_rows::add_event;
+use wsm_record::limits::LATEST_TIME;
+use wsm_record::{Event, Schema};
+use wsm_turns::Taker;
+use wsm_windows::Shape;
+
+/// What takes the events that go on: the rows of those at the last line, and the watermarks of a query's sources.
+#[derive(Drop)]
+pub struct Handed {
+    pub(crate) schema: Schema,
+    shape: Shape,
+    admission: Admission,
+    /// The number of the line.
+    pub(crate) number: u64,
+    /// The text of the line.
+    pub(crate) line: Vec<u8>,
+    /// The rows.
+    pub(crate) text: Vec<u8>,
+    ghost timely: { IsTimely admission.clock.from_window shape },
+}
+
+impl Handed {
+    ghost use Rattle.std.specs.Prelude.{◌≡◌, ◌++◌, ◌==◌, ◌∷◌, [], ℕ, List, OnOk, length};
+    ghost use Rattle.wsm_record.specs.Event.{Event as AnyEvent, event_of};
+    ghost use Rattle.wsm_turns.specs.Turns.{Setting, watermark};
+    ghost use Rattle.wsm_row_watermarks.specs.Turns.{event_text, last_row, mark_row, record_text, source_text, with_feed};
+    ghost use Rattle.wsm_row_watermarks.specs.Handed.{HearsOnly, Serves};
+
+    /// Before the first line.
+    pub fn new(alloc: Global, schema: Schema, times: Times) -> Handed
+        ensures serves { (w : Setting) → schema ≡ w.declared → times.clock ≡ w.clock → times.shape ≡ w.shape → Serves w result [] }
+        ensures schema { result.schema ≡ schema }
+    {
+        Handed {
+            admission: Admission::new(times.clock, &schema),
+            schema,
+            shape: times.shape,
+            number: 0,
+            line: Vec::new(alloc),
+            text: Vec::new(alloc),
+        }
+    }
+
+    /// Begins the turn of the line of a number, of which there is no text yet.
+    pub fn begin(&mut self, number: u64)
+        ensures number { self.new.number ≡ number }
+        ensures line { self.new.line.items ≡ [] }
+        ensures text { self.new.text.items ≡ [] }
+        ensures others { self.new ≡ record self.old { number = number; line = self.new.line; text = self.new.text } }
+    {
+        self.number = number;
+        self.line.clear();
+        self.text.clear();
+    }
+
+    /// What the query declares.
+    pub fn schema(&self) -> &Schema
+        ensures { result.now ≡ self.now.schema }
+    {
+        &self.schema
+    }
+
+    /// Whether the line has no text.
+    pub fn is_blank(&self) -> bool
+        ensures { result ≡ (length self.now.line.items == 0) }
+    {
+        self.line.is_empty()
+    }
+
+    /// The watermark of the query.
+    pub fn mark(&self) -> i64
+        ensures { (w : Setting) (past : List AnyEvent) → Serves w self.now past → result ≡ watermark w past }
+    {
+        self.admission.mark()
+    }
+
+    /// The line goes on.
+    pub fn add_line(&mut self) -> Result<(), AllocError>
+        ensures text { OnOk result (self.new.text.items ≡ self.old.text.items ++ with_feed self.old.line.items) }
+        ensures others { self.new ≡ record self.old { text = self.new.text } }
+    {
+        if self.line.is_empty() {
+            return Ok(());
+        }
+        self.text.extend_from_slice(&self.line)?;
+        Ok(self.text.push(b'\n')?)
+    }
+
+    /// The line goes on, which is a watermark.
+    pub fn add_marked_line(&mut self, event: &Event) -> Result<(), AllocError>
+        ensures serves { (w : Setting) (past : List AnyEvent) → Serves w self.old past → OnOk result (Serves w self.new (event_of event.now ∷ past)) }
+        ensures text { OnOk result (self.new.text.items ≡ self.old.text.items ++ with_feed self.old.line.items) }
+    {
+        self.hear(event);
+        self.add_line()
+    }
+
+    // Takes note of an event, by which the watermark may rise.
+    fn hear(&mut self, event: &Event)
+        ensures serves { (w : Setting) (past : List AnyEvent) → Serves w self.old past → Serves w self.new (event_of event.now ∷ past) }
+        ensures others { HearsOnly self.old self.new }
+    {
+        match event {
+            Event::Record { .. } => {}
+            Event::Watermark { .. } => {
+                // What it does is asked for later.
+                let _ = self.admission.decide(&self.schema, &self.shape, event);
+            }
+        }
+    }
+
+    // Adds the row of a record: the line, where it is the line's own.
+    fn add_record(&mut self, own: bool, event: &Event) -> Result<(), AllocError>
+        ensures text { OnOk result (self.new.text.items ≡ self.old.text.items ++ record_text self.old.schema self.old.line.items own (event_of event.now)) }
+        ensures others { self.new ≡ record self.old { text = self.new.text } }
+    {
+        if own {
+            self.add_line()
+        } else {
+            add_event(&self.schema, event, &mut self.text)
+        }
+    }
+
+    // Adds the row of a watermark.
+    fn add_mark(&mut self, time: i64) -> Result<(), AllocError>
+        ensures text { OnOk result (self.new.text.items ≡ self.old.text.items ++ mark_row self.old.schema time) }
+        ensures others { self.new ≡ record self.old { text = self.new.text } }
+    {
+        let mut digits = Buffer::new();
+        self.text.extend_from_slice(b"w,")?;
+        self.add_source()?;
+        self.text.extend_from_slice(digits.format(time).as_bytes())?;
+        Ok(self.text.push(b'\n')?)
+    }
+
+    /// Adds the row of the last watermark that there is, where it is asked for.
+    pub fn add_last(&mut self, last: bool) -> Result<(), AllocError>
+        ensures text { OnOk result (self.new.text.items ≡ self.old.text.items ++ last_row self.old.schema last) }
+        ensures others { self.new ≡ record self.old { text = self.new.text } }
+    {
+        if last {
+            self.add_mark(LATEST_TIME)
+        } else {
+            Ok(())
+        }
+    }
+
+    // Adds the first source, if there are any.
+    fn add_source(&mut self) -> Result<(), AllocError>
+        ensures text { OnOk result (self.new.text.items ≡ self.old.text.items ++ source_text self.old.schema.sources) }
+        ensures others { self.new ≡ record self.old { text = self.new.text } }
+    {
+        if self.schema.sources().len() == 0 {
+            return Ok(());
+        }
+        self.text
+            .extend_from_slice(self.schema.sources().text_of(0))?;
+        Ok(self.text.push(b',')?)
+    }
+
+    // Adds the row of an event of the line of a number.
+    fn add_event(&mut self, number: u64, event: &Event) -> Result<(), AllocError>
+        ensures text { OnOk result (self.new.text.items ≡ self.old.text.items ++ event_text self.old.schema self.old.number self.old.line.items number (event_of event.now)) }
+        ensures others { self.new ≡ record self.old { text = self.new.text } }
+    {
+        match event {
+            Event::Record { .. } => self.add_record(number == self.number, event),
+            Event::Watermark { time, .. } => self.add_mark(*time),
+        }
+    }
+}
+
+impl Taker for Handed {
+    ghost use Rattle.wsm_row_watermarks.specs.Handed.{Took, Took-join, Took-none};
+
+    ghost took = { Took };
+
+    ghost none = { Took-none };
+
+    ghost join = { Took-join };
+
+    // Takes note of an event, and adds its row.
+    fn take(&mut self, number: u64, event: &Event) -> Result<(), AllocError> {
+        self.hear(event);
+        self.add_event(number, event)
+    }
+}
