@@ -1,0 +1,5 @@
+pub mod ReadLemmas
+pub mod Decimals
+pub mod Ends
+pub mod Written
+pub mod Journals

@@ -1,0 +1,18 @@
+-- What is asked of bytes behind whole records, in the laws of journals.
+use Rattle.std.specs.Prelude.{◌≡◌, ℕ, List, [], ◌∷◌, length, None}
+use Rattle.wsm_journal.specs.Text.{Entry, journal_text}
+use Rattle.wsm_journal.specs.Reading.{Reading, reading_with, whole_at}
+use Rattle.wsm_journal.specs.declared.reading.Behind.{Behind}
+use Rattle.wsm_journal.specs.declared.reading.Behind.TheVariants.{Nothing, Torn}
+
+-- at no place of some bytes stands a line that has the sum of the bytes in front of it
+abbrev pub FitsNoSum : List ℕ → Type 0
+FitsNoSum text = (at : ℕ) → whole_at text at ≡ None
+
+abbrev pub torn_of : List ℕ → Behind
+torn_of [] = Nothing
+torn_of (byte ∷ text) = Torn
+
+-- all of some records, with these bytes behind them that are no record
+abbrev pub read_as : List Entry → List ℕ → Reading
+read_as entries torn = reading_with entries (length (journal_text entries)) (torn_of torn)

@@ -1,0 +1,5 @@
+pub mod Text
+pub mod Reading
+pub mod Seen
+pub mod Laws
+pub mod TextRows
