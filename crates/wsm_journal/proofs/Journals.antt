@@ -1,5 +1,5 @@
 -- Journals that were written are read back, with whatever stands behind them.
-use Rattle.std.proofs.Common.{◌≡◌, ◌∙◌, ℕ, zero, suc, ◌+◌, ◌%◌, ◌^◌, ◌<◌, ◌≤◌, List, [], ◌∷◌, ◌++◌, length, Bool, true, false, ◌||◌, cond, Option, Some, None, option_and_then, refl, sym, ap, arith, inl, inr, ◌⊎◌, append_assoc, append-nil, length-append}
+use Rattle.std.proofs.Common.{◌≡◌, ◌∙◌, ℕ, zero, suc, ◌+◌, ◌%◌, ◌^◌, ◌<◌, ◌≤◌, List, [], ◌∷◌, ◌++◌, length, Bool, true, false, ◌||◌, cond, Option, Some, None, option_and_then, refl, sym, ap, arith, append_assoc, append-nil, length-append}
 use Rattle.std.specs.Fmt.{decimal}
 use Rattle.std.proofs.lemmas.List.{drop_at}
 use Rattle.std.proofs.lemmas.Bool.{and_parts, and_from, lt-ltb}
@@ -111,16 +111,13 @@ pub written_read : (es : List Entry) → AreRecords None es → read_journal (jo
 written_read es good =
     ap read_journal (sym (append-nil (journal_text es))) ∙ all_read_then es [] good (no_mark_in_nothing (last_number None es))
 
--- the whole records, one more, or that one torn
-pub tearing_read : (es : List Entry) (e : Entry) (torn : List ℕ) → AreRecords None es → AreRecords None (es ++ e ∷ []) → (torn ≡ record_text e) ⊎ FitsNoSum torn
-    → (read_journal (journal_text es ++ torn) ≡ read_as (es ++ e ∷ []) []) ⊎ (read_journal (journal_text es ++ torn) ≡ read_as es torn)
-tearing_read es e torn good more (inr none) = inr (torn_read es torn good none)
-tearing_read es e torn good more (inl whole) =
-    inl (ap (λ t. read_journal (journal_text es ++ t)) whole ∙ ap read_journal (one_behind es) ∙ written_read (es ++ e ∷ []) more)
+-- one record more, whole
+pub more_read : (es : List Entry) (e : Entry) → AreRecords None (es ++ e ∷ []) → read_journal (journal_text es ++ record_text e) ≡ read_as (es ++ e ∷ []) []
+more_read es e good = ap read_journal (one_behind es) ∙ written_read (es ++ e ∷ []) good
   where
-    one_behind : (xs : List Entry) → journal_text xs ++ record_text e ≡ journal_text (xs ++ e ∷ [])
-    one_behind [] = sym (append-nil (record_text e))
-    one_behind (x ∷ xs) = append_assoc (record_text x) (journal_text xs) (record_text e) ∙ ap (λ t. record_text x ++ t) (one_behind xs)
+  one_behind : (xs : List Entry) → journal_text xs ++ record_text e ≡ journal_text (xs ++ e ∷ [])
+  one_behind [] = sym (append-nil (record_text e))
+  one_behind (x ∷ xs) = append_assoc (record_text x) (journal_text xs) (record_text e) ∙ ap (λ t. record_text x ++ t) (one_behind xs)
 
 -- ---- damage
 

@@ -1,6 +1,6 @@
 //! What holds of journals. The contract of each function is the law; a call of it does nothing.
 
-ghost use Rattle.std.specs.Prelude.{◌≡◌, ◌++◌, ◌∷◌, ◌⊎◌, [], ℕ, List, None, true, length};
+ghost use Rattle.std.specs.Prelude.{◌≡◌, ◌++◌, ◌∷◌, [], ℕ, List, None, true, length};
 ghost use Rattle.wsm_journal.specs.Text.{Entry, AreRecords, IsRecord, journal_text, last_number, record_text};
 ghost use Rattle.wsm_journal.specs.Reading.{is_later, next_whole, read_journal, reading_with};
 ghost use Rattle.wsm_journal.specs.Laws.{FitsNoSum, read_as};
@@ -11,11 +11,12 @@ pub fn read_back()
     ensures { (entries : List Entry) → AreRecords None entries → read_journal (journal_text entries) ≡ read_as entries [] }
 {}
 
-/// Where an append left these bytes behind whole records, whole or torn, the text reads as those records
-/// with the one that was appended or without it. Of torn bytes it is asked that they fit no sum: at no
-/// place of them stands a line that has the sum of the bytes in front of it.
+/// Where an append left these bytes behind whole records, the text reads as those records: with the one
+/// that was appended, where the bytes are its own, and else without it. Of torn bytes it is asked that they
+/// fit no sum: at no place of them stands a line that has the sum of the bytes in front of it.
 pub fn torn_appends()
-    ensures { (entries : List Entry) (more : Entry) (torn : List ℕ) → AreRecords None entries → AreRecords None (entries ++ more ∷ []) → (torn ≡ record_text more) ⊎ FitsNoSum torn → (read_journal (journal_text entries ++ torn) ≡ read_as (entries ++ more ∷ []) []) ⊎ (read_journal (journal_text entries ++ torn) ≡ read_as entries torn) }
+    ensures whole { (entries : List Entry) (more : Entry) → AreRecords None (entries ++ more ∷ []) → read_journal (journal_text entries ++ record_text more) ≡ read_as (entries ++ more ∷ []) [] }
+    ensures torn { (entries : List Entry) (torn : List ℕ) → AreRecords None entries → FitsNoSum torn → read_journal (journal_text entries ++ torn) ≡ read_as entries torn }
 {}
 
 /// A whole record with a later number, behind bytes that the next record isn't whole in, reads as damage.

@@ -1,10 +1,7 @@
--- The steps of the division are linear over bits, so that those for a byte can be looked up in a table.
-use Rattle.std.proofs.Common.{◌≡◌, ℕ, ◌*◌, ◌/◌, ◌%◌, ◌^◌, ◌<◌, map, get_or, bit_and, bit_xor, refl, sym, ap, ◌∙◌, arith, inl, inr, ◌⊎◌}
-use Rattle.std.specs.List.{range_with_len}
-use Rattle.std.proofs.lemmas.List.FromFn.{get_or-map-range_with_len}
-use lib.Bits.{xor_comm, xor_self, xor_assoc, xor_zero_r, xor_lt, xor_shr, xor_mod, xor_shifted, and_mask}
+-- The steps of the division are linear over bits, so that those for a byte can be looked up in tables.
+use Rattle.std.proofs.Common.{◌≡◌, ℕ, ◌*◌, ◌/◌, ◌%◌, ◌^◌, ◌<◌, bit_xor, refl, sym, ap, ◌∙◌, arith, inl, inr, ◌⊎◌}
+use lib.Bits.{xor_comm, xor_self, xor_assoc, xor_zero_r, xor_lt, xor_shr, xor_mod, xor_shifted}
 use Rattle.wsm_sums.specs.Crc.{polynomial, bit_step, byte_step}
-use Rattle.wsm_sums.specs.declared.table.TheConstants.{TABLE}
 
 pub xor_back : (a b : ℕ) → bit_xor (bit_xor a b) b ≡ a
 xor_back a b = xor_assoc a b b ∙ ap (λ x. bit_xor a x) (xor_self b) ∙ xor_zero_r a
@@ -27,7 +24,7 @@ lowest_of_xor a b m n ea eb = xor_mod a b 1 ∙ ap (λ x. bit_xor x (b % 2)) ea 
 others_of_xor : (a b : ℕ) → bit_xor a b / 2 ≡ bit_xor (a / 2) (b / 2)
 others_of_xor a b = xor_shr a b 1
 
-xors : (a b x y : ℕ) → a ≡ x → b ≡ y → bit_xor a b ≡ bit_xor x y
+pub xors : (a b x y : ℕ) → a ≡ x → b ≡ y → bit_xor a b ≡ bit_xor x y
 xors a b x y p q = ap (λ n. bit_xor n b) p ∙ ap (λ n. bit_xor x n) q
 
 even_even : (a b : ℕ) → a % 2 ≡ 0 → b % 2 ≡ 0 → bit_step (bit_xor a b) ≡ bit_xor (bit_step a) (bit_step b)
@@ -72,7 +69,7 @@ twice_linear f linear = record { each = λ a b. ap f (linear.each a b) ∙ linea
 eight_times : (f : ℕ → ℕ) → IsLinear f → IsLinear (λ a. f (f (f (f (f (f (f (f a))))))))
 eight_times f linear = twice_linear (λ a. f (f (f (f a)))) (twice_linear (λ a. f (f a)) (twice_linear f linear))
 
-byte_step_of_xor : (a b : ℕ) → byte_step (bit_xor a b) ≡ bit_xor (byte_step a) (byte_step b)
+pub byte_step_of_xor : (a b : ℕ) → byte_step (bit_xor a b) ≡ bit_xor (byte_step a) (byte_step b)
 unfolding byte_step
 byte_step_of_xor = (eight_times bit_step (record { each = step_of_xor })).each
 
@@ -98,30 +95,18 @@ above_and_byte : (a : ℕ) → bit_xor (a / 256 * 256) (a % 256) ≡ a
 above_and_byte a = xor_shifted (a / 256) 8 (a % 256) (omega arith) ∙ omega arith
 
 -- eight steps, by what they leave of the lowest byte
-by_lowest_byte : (a : ℕ) → byte_step a ≡ bit_xor (byte_step (a % 256)) (a / 256)
+pub by_lowest_byte : (a : ℕ) → byte_step a ≡ bit_xor (byte_step (a % 256)) (a / 256)
 by_lowest_byte a =
     ap byte_step (sym (above_and_byte a))
     ∙ byte_step_of_xor (a / 256 * 256) (a % 256)
     ∙ ap (λ x. bit_xor x (byte_step (a % 256))) (byte_step_above (a / 256))
     ∙ xor_comm (a / 256) (byte_step (a % 256))
 
-table_is : TABLE ≡ map byte_step (range_with_len 0 256)
-unfolding bit_step byte_step
-table_is = refl
-
-table_at : (i : ℕ) → i < 256 → get_or TABLE i 0 ≡ byte_step i
-table_at i inside = ap (λ t. get_or t i 0) table_is ∙ get_or-map-range_with_len byte_step 0 256 i i 0 inside (omega arith)
-
--- the step by the table
-pub step_by_table : (rest byte : ℕ) → byte < 256 → bit_xor (get_or TABLE (bit_and (bit_xor rest byte) 255) 0) (rest / 256) ≡ byte_step (bit_xor rest byte)
-step_by_table rest byte small =
-    let a : ℕ = bit_xor rest byte in
+-- a byte that is put in leaves the others
+pub above_of_xor : (rest byte : ℕ) → byte < 256 → bit_xor rest byte / 256 ≡ rest / 256
+above_of_xor rest byte small =
     let none : byte / 256 ≡ 0 = omega arith in
-    let above : a / 256 ≡ rest / 256 = xor_shr rest byte 8 ∙ ap (λ x. bit_xor (rest / 256) x) none ∙ xor_zero_r (rest / 256) in
-    let below : a % 256 < 256 = omega arith in
-    ap (λ i. bit_xor (get_or TABLE i 0) (rest / 256)) (and_mask a 8)
-    ∙ xors _ _ _ _ (table_at (a % 256) below) (sym above)
-    ∙ sym (by_lowest_byte a)
+    xor_shr rest byte 8 ∙ ap (λ x. bit_xor (rest / 256) x) none ∙ xor_zero_r (rest / 256)
 
 -- what is left stays in 32 bits
 step_lt : (a : ℕ) → a < 2 ^ 32 → bit_step a < 2 ^ 32

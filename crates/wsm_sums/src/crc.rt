@@ -1,22 +1,46 @@
-//! CRC-32 of a text, a byte at a time by a table.
+//! CRC-32 of a text, eight bytes at a time by tables.
 
-ghost use Rattle.std.specs.Prelude.{◌≡◌, bit_xor};
+ghost use Rattle.std.specs.Prelude.{◌≡◌, ◌<◌, ◌≤◌, ◌+◌, ◌%◌, bit_xor, drop, length};
 ghost use Rattle.wsm_sums.specs.Crc.{byte_step, rest_after, sum_behind};
 
-use crate::table::TABLE;
+use crate::table::{STEPS_8, STEPS_16, STEPS_24, STEPS_32, STEPS_40, STEPS_48, STEPS_56, STEPS_64};
 use std::marker::Model;
+
+#[inline]
+fn lowest_byte(left: u32) -> usize
+    ensures value { result ≡ left % 256 }
+    ensures small { result < 256 }
+{
+    (left & 0xFF) as usize
+}
 
 // What is left of the division behind one byte more.
 #[inline]
 fn rest_behind(rest: u32, byte: u8) -> u32
     ensures { result ≡ byte_step (bit_xor rest byte) }
 {
-    TABLE[((rest ^ byte as u32) & 0xFF) as usize] ^ (rest >> 8)
+    STEPS_8[lowest_byte(rest ^ byte as u32)] ^ (rest >> 8)
 }
 
-// What is left of the division behind some bytes more.
+// What is left of the division behind eight bytes more, which stand at a place.
+#[inline]
+fn rest_behind_eight(rest: u32, bytes: &[u8], at: usize) -> u32
+    requires { at + 8 ≤ length bytes.now }
+    ensures { rest_after rest (drop at bytes.now) ≡ rest_after result (drop (at + 8) bytes.now) }
+{
+    STEPS_64[lowest_byte(rest ^ bytes[at] as u32)]
+        ^ (STEPS_56[lowest_byte((rest >> 8) ^ bytes[at + 1] as u32)]
+            ^ (STEPS_48[lowest_byte((rest >> 16) ^ bytes[at + 2] as u32)]
+                ^ (STEPS_40[lowest_byte((rest >> 24) ^ bytes[at + 3] as u32)]
+                    ^ (STEPS_32[bytes[at + 4] as usize]
+                        ^ (STEPS_24[bytes[at + 5] as usize]
+                            ^ (STEPS_16[bytes[at + 6] as usize]
+                                ^ STEPS_8[bytes[at + 7] as usize]))))))
+}
+
+// What is left of the division behind some bytes more, one at a time.
 #[tactic(auto, unfolding(crate::specs::Crc::rest_after))]
-fn rest_after(rest: u32, bytes: &[u8]) -> u32
+fn rest_behind_each(rest: u32, bytes: &[u8]) -> u32
     ensures { result ≡ rest_after rest bytes.now }
 {
     let mut left = rest;
@@ -24,6 +48,19 @@ fn rest_after(rest: u32, bytes: &[u8]) -> u32
         left = rest_behind(left, *byte);
     }
     left
+}
+
+// What is left of the division behind some bytes more.
+fn rest_after(rest: u32, bytes: &[u8]) -> u32
+    ensures { result ≡ rest_after rest bytes.now }
+{
+    let mut left = rest;
+    let mut at = 0;
+    while bytes.len() - at >= 8 {
+        left = rest_behind_eight(left, bytes, at);
+        at += 8;
+    }
+    rest_behind_each(left, &bytes[at..])
 }
 
 /// The CRC-32 of the bytes that were added, seen as that number.

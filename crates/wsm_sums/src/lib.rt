@@ -9,6 +9,5 @@ pub use crc::Crc32;
 mod crc;
 pub mod laws;
 mod table;
-
 #[cfg(test)]
 mod tests;
