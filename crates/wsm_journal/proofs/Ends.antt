@@ -46,9 +46,9 @@ behind_end position y = sym (drop-drop 1 (length position) (position ++ (10 ∷ 
 
 pub position_read : (position y : List ℕ) → is_position position ≡ true → position_of (position ++ (10 ∷ y)) ≡ Some (position, y)
 position_read position y good =
+    let at : 0 + length position ≡ length position = omega arith in
     let parts = and_parts _ _ good in
     let found = line_end_found 0 position y parts.1 in
-    let at : 0 + length position ≡ length position = omega arith in
     let text : List ℕ = position ++ (10 ∷ y) in
     ap (λ (o : Option ℕ). option_and_then (λ (end : ℕ). cond (nat_le end 1024) (Some (take end text, drop (end + 1) text)) None) o) (found ∙ ap Some at)
     ∙ ap (λ b. cond b (Some (take (length position) text, drop (length position + 1) text)) None) parts.0

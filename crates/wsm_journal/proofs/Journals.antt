@@ -115,9 +115,9 @@ written_read es good =
 pub more_read : (es : List Entry) (e : Entry) → AreRecords None (es ++ e ∷ []) → read_journal (journal_text es ++ record_text e) ≡ read_as (es ++ e ∷ []) []
 more_read es e good = ap read_journal (one_behind es) ∙ written_read (es ++ e ∷ []) good
   where
-  one_behind : (xs : List Entry) → journal_text xs ++ record_text e ≡ journal_text (xs ++ e ∷ [])
-  one_behind [] = sym (append-nil (record_text e))
-  one_behind (x ∷ xs) = append_assoc (record_text x) (journal_text xs) (record_text e) ∙ ap (λ t. record_text x ++ t) (one_behind xs)
+    one_behind : (xs : List Entry) → journal_text xs ++ record_text e ≡ journal_text (xs ++ e ∷ [])
+    one_behind [] = sym (append-nil (record_text e))
+    one_behind (x ∷ xs) = append_assoc (record_text x) (journal_text xs) (record_text e) ∙ ap (λ t. record_text x ++ t) (one_behind xs)
 
 -- ---- damage
 

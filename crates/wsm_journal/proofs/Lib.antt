@@ -3,3 +3,4 @@ pub mod Decimals
 pub mod Ends
 pub mod Written
 pub mod Journals
+pub mod Moments

@@ -1,7 +1,7 @@
 -- What is asked of bytes behind whole records, in the laws of journals.
-use Rattle.std.specs.Prelude.{◌≡◌, ℕ, List, [], ◌∷◌, length, None}
-use Rattle.wsm_journal.specs.Text.{Entry, journal_text}
-use Rattle.wsm_journal.specs.Reading.{Reading, reading_with, whole_at}
+use Rattle.std.specs.Prelude.{◌≡◌, ◌⊎◌, ℕ, List, [], ◌∷◌, ◌++◌, drop, length, None}
+use Rattle.wsm_journal.specs.Text.{Entry, journal_text, record_text}
+use Rattle.wsm_journal.specs.Reading.{Reading, read_journal, reading_with, whole_at}
 use Rattle.wsm_journal.specs.declared.reading.Behind.{Behind}
 use Rattle.wsm_journal.specs.declared.reading.Behind.TheVariants.{Nothing, Torn}
 
@@ -16,3 +16,13 @@ torn_of (byte ∷ text) = Torn
 -- all of some records, with these bytes behind them that are no record
 abbrev pub read_as : List Entry → List ℕ → Reading
 read_as entries torn = reading_with entries (length (journal_text entries)) (torn_of torn)
+
+-- the bytes of a text behind those of some records
+abbrev pub behind_records : List Entry → List ℕ → List ℕ
+behind_records entries text = drop (length (journal_text entries)) text
+
+-- a text reads as some records with one more or without it, where the bytes behind them are that one's or fit no sum
+abbrev pub IsBeforeOrAfter : List Entry → Entry → List ℕ → Type 0
+IsBeforeOrAfter entries more text =
+    (behind_records entries text ≡ record_text more) ⊎ FitsNoSum (behind_records entries text)
+    → (read_journal text ≡ read_as (entries ++ more ∷ []) []) ⊎ (read_journal text ≡ read_as entries (behind_records entries text))

@@ -3,3 +3,5 @@ pub mod Reading
 pub mod Seen
 pub mod Laws
 pub mod TextRows
+pub mod Folder
+pub mod FolderRows
