@@ -3,7 +3,7 @@
 use std::io::Eprint;
 use wsm_log_run::{Heard, Listener, LogCounts};
 
-/// Tells that too few clocks of a log speak, while a run over it lasts.
+/// Tells of the clocks of a log while a run over it lasts, and of its clocks and doubles at the end.
 #[derive(Drop)]
 pub struct Teller<'r, R> {
     rt: &'r R,

@@ -54,7 +54,7 @@ fn selected(event: &Event) -> What
     }
 }
 
-// What another event does that is taken.
+// What an event does that is taken and selects no record.
 fn accepted(event: &Event) -> What
     ensures { result ≡ spec.what_accepted (event_of event.now) }
 {

@@ -97,7 +97,7 @@ impl Chains {
         self.links[number].before as usize
     }
 
-    // Adds a hash.
+    // Adds a hash. Memory was refused, or no number is left.
     #[inline(always)]
     pub(crate) fn push(&mut self, hash: u32) -> Result<(), AllocError>
         requires { 0 < self.old.buckets }

@@ -62,8 +62,8 @@ impl Doubles {
     ///
     /// # Errors
     ///
-    /// Memory was refused. The same identifiers are known as before, at this watermark and at each later
-    /// one.
+    /// Memory was refused, or there are 2^32 - 1 identifiers. The same are known as before, at this watermark and
+    /// at each later one.
     pub fn pass(
         &mut self,
         identifier: &[u8],
@@ -115,7 +115,7 @@ fn make_room(
     Ok(())
 }
 
-// Drops what can't count any more at a moment, and has room for as many again as are left.
+// Drops what can't count any more at a moment, and has room for as many again as there were.
 #[cold]
 #[inline(never)]
 fn forget(

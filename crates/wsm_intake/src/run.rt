@@ -25,8 +25,9 @@ use wsm_turns::Clocks;
 
 /// Runs a program over the lines of a log, by a source that says how a line is read, and with the watermarks of clocks,
 /// where there are any. Each line is read and its turn taken, and the device is given the bytes of the turn before the next line is
-/// asked for. At last it is given what is written for the records that wait,
-/// and the end row, and is flushed. A listener is told what the clocks come to after the first 1,000 lines and after each 100,000. The numbers of that row are answered, and what is counted beside them.
+/// asked for. At last it is given what is written for the records that wait, and the end row, and is flushed. The numbers of that row
+/// are answered, and what is counted beside them. A listener is told what the clocks come to after the first 1,000 lines and after
+/// each 100,000.
 ///
 /// # Errors
 ///

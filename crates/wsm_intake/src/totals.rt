@@ -15,6 +15,8 @@ pub struct LogCounts {
 /// What a run over a log comes to: the numbers of its last line, and what is counted beside them.
 #[derive(Clone, Copy)]
 pub struct LogTotals {
+    /// The numbers of the last line.
     pub totals: Totals,
+    /// What is counted beside them.
     pub counts: LogCounts,
 }

@@ -9,7 +9,9 @@ use wsm_windows::Shape;
 /// The clock of a query and its windows, by which records are late.
 #[derive(Clone, Copy)]
 pub struct Times {
+    /// Its clock.
     pub clock: Clock,
+    /// Its windows.
     pub shape: Shape,
     ghost within: { IsWithinLimits clock },
     ghost timely: { IsTimely clock.from_window shape },

@@ -29,14 +29,14 @@ pub struct Rules {
     pub times: Times,
     /// The clocks by which watermarks are written; none are without them.
     pub clocks: Option<Clocks>,
-    /// At which place of a record its identifier stands, from 0 on; none has one without.
+    /// At which place of a record its identifier stands, from 1 on, since its tag is in 0; none has one without.
     pub once: Option<usize>,
-    /// Whether the last watermark that there is ends the rows.
+    /// Whether the last watermark that there is ends the rows, also where it stands among them.
     pub last: bool,
 }
 
-/// Reads the lines of rows, and writes the rows that they come to. Each line is one row, always: one that is no row goes on as it is, or
-/// as `unread` where it would not be one row or is longer than 65,536 bytes. A watermark that stands among the rows goes on, and none that
+/// Reads the lines of rows, and writes the rows that they come to. Each line is one row, always: one that is no row goes on as it is, but without the
+/// cell of its identifier, or as `unread` where it would not be one row or is longer than 65,536 bytes. A watermark that stands among the rows goes on, and none that
 /// is lower is written behind it. At the end what waits goes on. The device is given the rows of a line before the next line is asked for,
 /// and is flushed at last. It is answered what the lines came to.
 ///

@@ -166,8 +166,7 @@ pub fn take_record<T: Taker>(
 }
 
 /// Takes note of a watermark that the line of a number tells without the clocks: they tell only greater ones behind it. What waits and
-/// isn't ahead of it is handed on, each record behind the watermark that its time alone would raise, so that none is late for having waited.
-/// The watermark itself isn't.
+/// isn't ahead of it is handed on, each record behind the watermark that its time alone would raise. The watermark itself isn't.
 ///
 /// # Errors
 ///
