@@ -8,7 +8,7 @@ from dataclasses import dataclass, field
 from functools import cached_property
 
 from reference import Query, Stream
-from source_reading import LATEST, Source
+from source_reading import LATEST, Source, few_clocks
 
 
 @dataclass
@@ -152,10 +152,10 @@ class Feeding:
             self.go(*self.waiting.pop())
 
     def few(self):
-        """What is told where fewer clocks speak than have to agree."""
-        speak = sum(spoke > self.stamps - self.rules.forget for spoke, _ in self.clocks.values())
-        if self.rules.has_clocks and speak < self.rules.agree:
-            self.told.append(f"wsm: no watermark rises: clocks that speak: {speak}, that must agree: {self.rules.agree}")
+        """Tells it where fewer clocks speak than have to agree."""
+        if self.rules.has_clocks:
+            speak = sum(spoke > self.stamps - self.rules.forget for spoke, _ in self.clocks.values())
+            self.told += few_clocks(speak, self.rules.agree).splitlines()
 
     def end(self):
         if self.doubles:

@@ -1,5 +1,21 @@
-"""The program that a trial runs."""
+"""The program that a trial runs, the words that it is called by, and what a run writes."""
+import argparse
 import subprocess
+from pathlib import Path
+
+TOP = Path(__file__).resolve().parent.parent
+
+
+def parser_of(trial, page):
+    """A parser of the words of a trial that draws what it tries; its help is the page at the head of the trial's file."""
+    first, usage, rest = page.split("\n\n", 2)
+    parser = argparse.ArgumentParser(
+        prog=trial, usage=usage.removeprefix("usage: "), description=f"{first}\n\n{rest}",
+        formatter_class=argparse.RawDescriptionHelpFormatter,
+    )
+    parser.add_argument("--seed", type=int, default=1)
+    parser.add_argument("program", nargs="?", type=Path, default=TOP / "wsm")
+    return parser
 
 
 def built_by(program):
@@ -16,3 +32,9 @@ def run_over(program, folder, rules, log):
     query, source, lines = (folder / name for name in files)
     ran = subprocess.run([program, "run", "--from", source, query, lines], capture_output=True, text=True)
     return ran.returncode, ran.stdout.splitlines()
+
+
+def lines_that_differ(got, want):
+    """What differs of the lines that a run writes from those that it must write."""
+    found = [f"line {at}: it is {its}, and must be {must}" for at, (its, must) in enumerate(zip(got, want), 1) if its != must]
+    return found + ([f"it has {len(got)} lines, and must have {len(want)}"] if len(got) != len(want) else [])

@@ -465,6 +465,11 @@ class Source:
         return Clocks(self.said["clock"], start) if "clock" in self.said else None
 
 
+def few_clocks(speak, agree):
+    """The line that is told where fewer clocks speak than have to agree, else none."""
+    return f"wsm: no watermark rises: clocks that speak: {speak}, that must agree: {agree}\n" if speak < agree else ""
+
+
 class Clocks:
     """Each key is a clock, whose time is that of its last record that fits; the watermark goes by what so many agree on."""
 
@@ -486,9 +491,8 @@ class Clocks:
         return mark
 
     def few(self):
-        """What is told where fewer clocks speak than have to agree."""
-        speak = len(dict(self.stamps[-self.forget:]))
-        return f"wsm: no watermark rises: clocks that speak: {speak}, that must agree: {self.agree}\n" if speak < self.agree else ""
+        """What is told of how many clocks speak."""
+        return few_clocks(len(dict(self.stamps[-self.forget:])), self.agree)
 
 
 # ---- worked cases, with answers by hand, from the standards, and from what the crates' definitions were computed to
