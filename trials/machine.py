@@ -48,8 +48,9 @@ exec setpriv --bounding-set -sys_module,-sys_time,-sys_rawio,-syslog env -i cont
 """
 # Takes the groups of a machine that has ended.
 CLEAR = r"""
-mount -t cgroup2 none "$0"
+mount -t cgroup2 none "$0" || exit
 for again in $(seq 50); do
+    [ -d "$0/$1" ] || break
     find "$0/$1" -depth -type d -exec rmdir {} + && break
     sleep 0.1
 done
@@ -78,14 +79,16 @@ class Machine:
         until = time.monotonic() + PATIENCE
         while not self.is_up():
             if self.process.poll() is not None or time.monotonic() > until:
-                self.process.kill()
-                raise NoMachine(f"none can be made here: {self.process.communicate()[1].strip()[-300:]}")
+                raise NoMachine(f"none can be made here: {self.end().strip()[-300:]}")
             time.sleep(0.1)
 
     def is_up(self):
-        words = ["ps", "--ppid", str(self.process.pid), "-o", "pid=,comm="]
-        child = subprocess.run(words, capture_output=True, text=True).stdout.split()
-        self.first = child[0] if child[1:] == ["systemd"] else None
+        children = Path(f"/proc/{self.process.pid}/task/{self.process.pid}/children")
+        try:
+            child = children.read_text().strip()
+            self.first = child if child and Path(f"/proc/{child}/comm").read_text() == "systemd\n" else None
+        except (FileNotFoundError, ProcessLookupError):  # it has just ended
+            return False
         return self.first is not None and self.run("systemctl is-system-running").stdout == "running\n"
 
     def run(self, command, folder="/root"):
@@ -104,6 +107,8 @@ class Machine:
         return set(self.run("find /run/layer ! -type d -printf '/%P\\n'").stdout.splitlines())
 
     def end(self):
+        """Ends it, and answers what was said while it was made."""
         self.process.kill()
-        self.process.communicate()
+        said = self.process.communicate()[1]
         subprocess.run(["unshare", "--mount", "bash", "-uc", CLEAR, str(self.folder), self.name], stderr=subprocess.DEVNULL)
+        return said
