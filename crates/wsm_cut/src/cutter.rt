@@ -51,10 +51,10 @@ impl Cutter {
     }
 
     /// Takes the next row that is an event, with what is told of it and its text.
-    pub fn take(&mut self, judged: Judged, text: Vec<u8>) -> Result<(), AllocError>
+    pub fn take(&mut self, judged: Judged, text: &[u8]) -> Result<(), AllocError>
         requires ready { IsReady self.old }
         ensures ready { IsReady self.new }
-        ensures fits { (p : AnyProgram) (rows : List Written) (e : AnyEvent) → Fits p self.old rows → IsTold (query_of p) rows e judged → OnOk result (Fits p self.new ((Ok e, text.items) ∷ rows)) }
+        ensures fits { (p : AnyProgram) (rows : List Written) (e : AnyEvent) → Fits p self.old rows → IsTold (query_of p) rows e judged → OnOk result (Fits p self.new ((Ok e, text.now) ∷ rows)) }
     {
         self.keeper.take(judged, text)
     }

@@ -1,39 +1,50 @@
 -- One row more in a queue, and one less.
-use Rattle.std.proofs.Common.{◌≡◌, ℕ, true, false, Bool, cond, List, [], ◌∷◌, ◌++◌, map, reverse, refl, sym, ap, ◌∙◌, append_assoc}
-use Rattle.std.proofs.lemmas.List.{map-append, reverse-append, reverse-reverse}
+use Rattle.std.proofs.Common.{◌≡◌, ℕ, ◌+◌, ◌<◌, true, false, Bool, cond, List, [], ◌∷◌, ◌++◌, get_or, length, map, pos, reverse, take, refl, sym, ap, ◌∙◌, append_assoc}
+use Rattle.std.proofs.lemmas.List.{map-append, reverse-append, reverse-reverse, take_more}
 use Rattle.wsm_semantics.specs.FromWatermark.{Times}
 use Rattle.wsm_keep.specs.declared.queue.Item.{Item}
+use Rattle.wsm_keep.specs.declared.what.What.TheVariants.{Selected}
 use Rattle.wsm_keep.specs.Holds.{Queued}
-use Rattle.wsm_keep.specs.Items.{item_of, queue_of}
-use Rattle.wsm_keep.specs.Staying.{stays, told_after, thinned, done_by}
-
-pub queue_of-more : (items : List Item) (i : Item) → queue_of (items ++ i ∷ []) ≡ item_of i ∷ queue_of items
-queue_of-more items i = ap reverse (map-append item_of items (i ∷ [])) ∙ reverse-append (map item_of items) (item_of i ∷ [])
-
-pub queue_of-append : (items more : List Item) → queue_of (items ++ more) ≡ queue_of more ++ queue_of items
-queue_of-append items more = ap reverse (map-append item_of items more) ∙ reverse-append (map item_of items) (map item_of more)
+use Rattle.wsm_keep.specs.Items.{item_of, joined, queue_of}
+use Rattle.wsm_keep.specs.Staying.{stays, told_after, thinned, done_by, row_of}
 
 map-reverse : {A B : Type 0} (f : A → B) (xs : List A) → map f (reverse xs) ≡ reverse (map f xs)
 map-reverse f [] = refl
 map-reverse f (x ∷ xs) =
     ap (map f) (reverse-append (x ∷ []) xs) ∙ map-append f (reverse xs) (x ∷ []) ∙ ap (λ l. l ++ f x ∷ []) (map-reverse f xs) ∙ sym (reverse-append (f x ∷ []) (map f xs))
 
-pub queue_of-reverse : (items : List Item) → queue_of (reverse items) ≡ map item_of items
-queue_of-reverse items = ap reverse (map-reverse item_of items) ∙ reverse-reverse (map item_of items)
+-- what stands for an item where there is none
+abbrev pub no_item : Item
+no_item = record { what = Selected 0 (pos 0); start = 0; end = 0 }
+
+module _ (texts : List ℕ) where
+  pub queue_of-more : (items : List Item) (i : Item) → queue_of texts (items ++ i ∷ []) ≡ item_of texts i ∷ queue_of texts items
+  queue_of-more items i = ap reverse (map-append (item_of texts) items (i ∷ [])) ∙ reverse-append (map (item_of texts) items) (item_of texts i ∷ [])
+
+  pub queue_of-next : (items : List Item) (n : ℕ) (i : Item) → n < length items → queue_of texts (take (n + 1) items) ≡ item_of texts (get_or items n i) ∷ queue_of texts (take n items)
+  queue_of-next items n i within = ap (queue_of texts) (take_more items n i within) ∙ queue_of-more (take n items) (get_or items n i)
+
+  pub joined-next : (items : List Item) (n : ℕ) (i : Item) → n < length items →
+      joined (map row_of (queue_of texts (take (n + 1) items))) ≡ joined (map row_of (queue_of texts (take n items))) ++ (item_of texts (get_or items n i)).1
+  unfolding joined
+  joined-next items n i within = ap (λ (ds : List Queued). joined (map row_of ds)) (queue_of-next items n i within)
+
+  pub queue_of-reverse : (items : List Item) → queue_of texts (reverse items) ≡ map (item_of texts) items
+  queue_of-reverse items = ap reverse (map-reverse (item_of texts) items) ∙ reverse-reverse (map (item_of texts) items)
 
 -- what stays so far, and what of the rest will
-module _ (x : Times) where
+module _ (texts : List ℕ) (x : Times) where
   abbrev pub left_of : List Item → List ℕ → List Item → List Queued
-  left_of kept told items = map item_of kept ++ thinned done_by x told (queue_of items)
+  left_of kept told items = map (item_of texts) kept ++ thinned done_by x told (queue_of texts items)
 
   pub one_stays : (kept items : List Item) (told : List ℕ) (i : Item) → stays x told i.what ≡ true → left_of (kept ++ i ∷ []) (told_after told i.what) items ≡ left_of kept told (items ++ i ∷ [])
   one_stays kept items told i h =
-      ap (λ (ds : List Queued). ds ++ thinned done_by x (told_after told i.what) (queue_of items)) (map-append item_of kept (i ∷ []))
-      ∙ append_assoc (map item_of kept) (item_of i ∷ []) (thinned done_by x (told_after told i.what) (queue_of items))
-      ∙ sym (ap (λ (ds : List Queued). map item_of kept ++ thinned done_by x told ds) (queue_of-more items i)
-      ∙ ap (λ (b : Bool). map item_of kept ++ cond b (item_of i ∷ thinned done_by x (told_after told i.what) (queue_of items)) (thinned done_by x told (queue_of items))) h)
+      ap (λ (ds : List Queued). ds ++ thinned done_by x (told_after told i.what) (queue_of texts items)) (map-append (item_of texts) kept (i ∷ []))
+      ∙ append_assoc (map (item_of texts) kept) (item_of texts i ∷ []) (thinned done_by x (told_after told i.what) (queue_of texts items))
+      ∙ sym (ap (λ (ds : List Queued). map (item_of texts) kept ++ thinned done_by x told ds) (queue_of-more texts items i)
+      ∙ ap (λ (b : Bool). map (item_of texts) kept ++ cond b (item_of texts i ∷ thinned done_by x (told_after told i.what) (queue_of texts items)) (thinned done_by x told (queue_of texts items))) h)
 
   pub one_goes : (kept items : List Item) (told : List ℕ) (i : Item) → stays x told i.what ≡ false → left_of kept told items ≡ left_of kept told (items ++ i ∷ [])
   one_goes kept items told i h =
-      sym (ap (λ (ds : List Queued). map item_of kept ++ thinned done_by x told ds) (queue_of-more items i)
-      ∙ ap (λ (b : Bool). map item_of kept ++ cond b (item_of i ∷ thinned done_by x (told_after told i.what) (queue_of items)) (thinned done_by x told (queue_of items))) h)
+      sym (ap (λ (ds : List Queued). map (item_of texts) kept ++ thinned done_by x told ds) (queue_of-more texts items i)
+      ∙ ap (λ (b : Bool). map (item_of texts) kept ++ cond b (item_of texts i ∷ thinned done_by x (told_after told i.what) (queue_of texts items)) (thinned done_by x told (queue_of texts items))) h)

@@ -4,6 +4,7 @@ pub mod Thinning
 pub mod Settled
 pub mod Queues
 pub mod Items
+pub mod Texts
 pub mod Behind
 pub mod Cuts
 pub mod OfKeys

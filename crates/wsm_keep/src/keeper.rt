@@ -78,12 +78,12 @@ impl Keeper {
     }
 
     /// Takes the next row that is an event, with what is told of it.
-    pub fn take(&mut self, judged: Judged, text: Vec<u8>) -> Result<(), AllocError>
+    pub fn take(&mut self, judged: Judged, text: &[u8]) -> Result<(), AllocError>
         requires shape { IsShape self.old.shape }
         requires lateness { IsSpan self.old.lateness }
         ensures shape { self.new.shape ≡ self.old.shape }
         ensures lateness { self.new.lateness ≡ self.old.lateness }
-        ensures fits { (q : Query) (rows : List Written) (e : AnyEvent) → IsLawfulQuery q → Fits q self.old rows → IsTold q rows e judged → OnOk result (Fits q self.new ((Ok e, text.items) ∷ rows)) }
+        ensures fits { (q : Query) (rows : List Written) (e : AnyEvent) → IsLawfulQuery q → Fits q self.old rows → IsTold q rows e judged → OnOk result (Fits q self.new ((Ok e, text.now) ∷ rows)) }
     {
         self.queue_row(judged, text)?;
         if self.most <= self.queue.len() {
@@ -94,10 +94,10 @@ impl Keeper {
     }
 
     // Queues a row.
-    fn queue_row(&mut self, judged: Judged, text: Vec<u8>) -> Result<(), AllocError>
+    fn queue_row(&mut self, judged: Judged, text: &[u8]) -> Result<(), AllocError>
         ensures shape { self.new.shape ≡ self.old.shape }
         ensures lateness { self.new.lateness ≡ self.old.lateness }
-        ensures fits { (q : Query) (rows : List Written) (e : AnyEvent) → IsLawfulQuery q → Fits q self.old rows → IsTold q rows e judged → OnOk result (Fits q self.new ((Ok e, text.items) ∷ rows)) }
+        ensures fits { (q : Query) (rows : List Written) (e : AnyEvent) → IsLawfulQuery q → Fits q self.old rows → IsTold q rows e judged → OnOk result (Fits q self.new ((Ok e, text.now) ∷ rows)) }
     {
         match self.form {
             Form::Panes => self.queue_for_panes(judged, text),
@@ -106,11 +106,11 @@ impl Keeper {
     }
 
     // Queues a row that does something, where panes are written.
-    fn queue_for_panes(&mut self, judged: Judged, text: Vec<u8>) -> Result<(), AllocError>
+    fn queue_for_panes(&mut self, judged: Judged, text: &[u8]) -> Result<(), AllocError>
         ensures settings { HasSettings self.old self.new }
         ensures since { self.new.since ≡ self.old.since }
         ensures before { self.new.before ≡ judged.mark }
-        ensures queue { OnOk result (self.new.queue ≡ queued_if judged.what text.items self.old.queue) }
+        ensures queue { OnOk result (self.new.queue ≡ queued_if judged.what text.now self.old.queue) }
     {
         self.before = judged.mark;
         match judged.what {
@@ -120,17 +120,17 @@ impl Keeper {
     }
 
     // Has a row wait for the next rise. At a rise all that waited are queued.
-    fn queue_for_streams(&mut self, judged: Judged, text: Vec<u8>) -> Result<(), AllocError>
+    fn queue_for_streams(&mut self, judged: Judged, text: &[u8]) -> Result<(), AllocError>
         ensures settings { HasSettings self.old self.new }
         ensures before { OnOk result (self.new.before ≡ unwrap_or judged.rise self.old.before) }
         ensures queue { OnOk result (self.new.queue ≡ queue_at judged.rise self.old.since self.old.queue) }
-        ensures since { OnOk result (self.new.since ≡ (judged.what, text.items) ∷ since_at judged.rise self.old.since) }
+        ensures since { OnOk result (self.new.since ≡ (judged.what, text.now) ∷ since_at judged.rise self.old.since) }
     {
         if let Some(before) = judged.rise {
             self.before = before;
             let alloc = self.queue.allocator();
             let since = mem::replace(&mut self.since, Queue::new(alloc));
-            self.queue.append(since)?;
+            self.queue.append(&since)?;
         }
         self.since.push(judged.what, text)
     }
@@ -166,7 +166,7 @@ impl Keeper {
             since,
             ..
         } = self;
-        queue.append(since)?;
+        queue.append(&since)?;
         Ok(queue)
     }
 }

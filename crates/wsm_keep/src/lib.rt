@@ -3,7 +3,7 @@
 
 pub use firsts::Firsts;
 pub use keeper::{Judged, Keeper};
-pub use queue::{Item, Queue};
+pub use queue::Queue;
 pub use what::What;
 
 mod cut;

@@ -1,37 +1,44 @@
 //! Rows that wait for a cut.
 
-ghost use Rattle.std.specs.Prelude.{◌≡◌, [], ◌∷◌, ◌++◌, IfOk, OnOk};
+ghost use Rattle.std.specs.Prelude.{◌≡◌, ℕ, List, [], ◌∷◌, ◌++◌, map, IfOk, OnOk};
+ghost use Rattle.std.specs.List.{All};
 ghost use Rattle.wsm_semantics.specs.Needed.{is_one_of};
 ghost use Rattle.wsm_keep.specs.Staying as spec;
-ghost use Rattle.wsm_keep.specs.Staying.{done_by};
-ghost use Rattle.wsm_keep.specs.Items.{queue_of, times_of};
+ghost use Rattle.wsm_keep.specs.Staying.{done_by, row_of};
+ghost use Rattle.wsm_keep.specs.Items.{Lies, joined, queue_of, times_of};
 
 use crate::firsts::Firsts;
 use crate::what::What;
 use std::alloc::{AllocError, Global};
 use std::marker::Model;
 
-/// A row's text, and what the row does.
-#[derive(Drop)]
-pub struct Item {
-    pub what: What,
-    pub text: Vec<u8>,
+// What a row does, and where its text stands.
+#[derive(Clone, Copy)]
+pub(crate) struct Item {
+    pub(crate) what: What,
+    pub(crate) start: usize,
+    pub(crate) end: usize,
 }
 
 /// Rows that wait for a cut, the oldest first. A clause sees what each does and its text, the newest first.
 #[derive(Drop)]
 pub struct Queue {
+    // The texts of all rows, behind one another.
+    texts: Vec<u8>,
     items: Vec<Item>,
 }
 
 impl Model for Queue {
     ghost use Rattle.std.specs.Prelude.{List};
+    ghost use Rattle.std.specs.List.{All};
     ghost use Rattle.wsm_keep.specs.Holds.{Queued};
-    ghost use Rattle.wsm_keep.specs.Items.{queue_of};
+    ghost use Rattle.wsm_keep.specs.Items.{Lies, queue_of};
 
     ghost Value = { List Queued };
 
-    ghost view = { λ q. queue_of q.items.items };
+    ghost view = { λ q. queue_of q.texts.items q.items.items };
+
+    ghost invariant = { λ q. All (Lies q.texts.items) q.items.items };
 }
 
 impl Queue {
@@ -40,6 +47,7 @@ impl Queue {
         ensures { result ≡ [] }
     {
         Queue {
+            texts: Vec::new(alloc),
             items: Vec::new(alloc),
         }
     }
@@ -49,9 +57,9 @@ impl Queue {
         self.items.len()
     }
 
-    /// The rows, the oldest first.
-    pub fn items(&self) -> &[Item]
-        ensures { queue_of result.now ≡ self.now }
+    // What the rows do, the oldest first.
+    pub(crate) fn items(&self) -> &[Item]
+        ensures { (texts : List ℕ) × (queue_of texts result.now ≡ self.now) }
     {
         self.items.as_slice()
     }
@@ -62,17 +70,38 @@ impl Queue {
     }
 
     /// Adds rows that come behind.
-    pub fn append(&mut self, mut newer: Queue) -> Result<(), AllocError>
-        ensures { OnOk result (self.new ≡ newer ++ self.old) }
+    pub fn append(&mut self, newer: &Queue) -> Result<(), AllocError>
+        ensures { OnOk result (self.new ≡ newer.now ++ self.old) }
     {
-        self.items.append(&mut newer.items)
+        self.push_all(&newer.texts, &newer.items)
+    }
+
+    // Adds a row of each item, with its text among these.
+    fn push_all(&mut self, texts: &[u8], items: &[Item]) -> Result<(), AllocError>
+        requires { All (Lies texts.now) items.now }
+        ensures { OnOk result (self.new ≡ queue_of texts.now items.now ++ self.old) }
+    {
+        for item in items {
+            self.push(item.what, &texts[item.start..item.end])?;
+        }
+        Ok(())
+    }
+
+    /// Adds the texts of all rows, the oldest first, behind a text.
+    pub fn add_texts(&self, text: &mut Vec<u8>) -> Result<(), AllocError>
+        ensures { OnOk result (text.new.items ≡ text.old.items ++ joined (map row_of self.now)) }
+    {
+        add_all(&self.texts, &self.items, text)
     }
 
     /// Adds a row.
-    pub fn push(&mut self, what: What, text: Vec<u8>) -> Result<(), AllocError>
-        ensures { OnOk result (self.new ≡ (what, text.items) ∷ self.old) }
+    pub fn push(&mut self, what: What, text: &[u8]) -> Result<(), AllocError>
+        ensures { OnOk result (self.new ≡ (what, text.now) ∷ self.old) }
     {
-        self.items.push(Item { what, text })?;
+        let start = self.texts.len();
+        self.texts.extend_from_slice(text)?;
+        let end = self.texts.len();
+        self.items.push(Item { what, start, end })?;
         Ok(())
     }
 
@@ -80,8 +109,8 @@ impl Queue {
     pub fn thinned(self, firsts: &Firsts) -> Result<Queue, AllocError>
         ensures { IfOk result (λ q. q ≡ spec.thinned done_by (times_of firsts.now) [] self) }
     {
-        let alloc = *self.items.allocator();
-        let mut items = self.items;
+        let Queue { texts, mut items } = self;
+        let alloc = *items.allocator();
         let mut kept = Vec::new(alloc);
         let mut told = Vec::new(alloc);
         while let Some(item) = items.pop() {
@@ -91,8 +120,21 @@ impl Queue {
             }
         }
         kept.reverse();
-        Ok(Queue { items: kept })
+        let mut queue = Queue::new(alloc);
+        queue.push_all(&texts, &kept)?;
+        Ok(queue)
     }
+}
+
+// Adds the text of each item, which stands among these, behind a text.
+fn add_all(texts: &[u8], items: &[Item], text: &mut Vec<u8>) -> Result<(), AllocError>
+    requires { All (Lies texts.now) items.now }
+    ensures { OnOk result (text.new.items ≡ text.old.items ++ joined (map row_of (queue_of texts.now items.now))) }
+{
+    for item in items {
+        text.extend_from_slice(&texts[item.start..item.end])?;
+    }
+    Ok(())
 }
 
 // Whether a row stays, in front of watermarks of some sources.

@@ -89,7 +89,7 @@ fn is_beside(window: Window, gap: i64, time: i64) -> bool
 fn sessions_of_keys(alloc: Global, gap: i64, items: &[Item]) -> Result<Vec<Sessions>, AllocError>
     requires gap_low { pos 1 ≤ℤ gap }
     requires gap_high { gap ≤ℤ greatest_span }
-    ensures { IfOk result (λ keys. AreOfKeys gap keys.items (queue_of items.now)) }
+    ensures { (texts : List ℕ) → IfOk result (λ keys. AreOfKeys gap keys.items (queue_of texts items.now)) }
 {
     let mut keys = none_of_keys(alloc, gap, &counts_of(alloc, items)?)?;
     for item in items {

@@ -16,6 +16,7 @@ use Rattle.wsm_csv.specs.Cells.{event_of_cells}
 use Rattle.wsm_csv.specs.Records.{AreAll}
 use Rattle.wsm_keep.specs.declared.keeper.Judged.{Judged}
 use Rattle.wsm_keep.specs.Holds.{Written, read, text_of}
+use Rattle.wsm_keep.specs.Items.{joined}
 use Rattle.wsm_keep.specs.Staying.{is_event, staying}
 use Rattle.wsm_cut.specs.declared.cutter.Cutter.{Cutter}
 use Rattle.wsm_cut.specs.Cutter as cutter
@@ -32,7 +33,7 @@ use Rattle.wsm_kept.specs.Kept.{Cells, counts_of, in_place, kept_rows, rows_of, 
 use Rattle.wsm_kept.specs.Pass.{Cuts, Fits, IsLimit, IsOf, Meets, Stops, Taken, line_count}
 use Rattle.wsm_kept.specs.Run as run
 use Rattle.wsm_kept.specs.Run.{IsTurn, Tells, no_counts}
-use Rattle.wsm_kept.specs.Texts.{joined, rows_text}
+use Rattle.wsm_kept.specs.Texts.{rows_text}
 use Rattle.wsm_kept.proofs.Back.{all_in_place, unique}
 use Rattle.wsm_kept.proofs.RowLists.{length_rows, rows_of-more, written-more}
 use Rattle.wsm_kept.proofs.Texts.{joined_kept}

@@ -6,25 +6,18 @@ use Rattle.wsm_record.specs.declared.event.RowFault.TheVariants.{BadTag}
 use Rattle.wsm_semantics.specs.Query.{Query}
 use Rattle.wsm_semantics.specs.Lines.{Row}
 use Rattle.wsm_csv.specs.Cells.{event_of_cells}
-use Rattle.wsm_keep.specs.declared.queue.Item.{Item}
 use Rattle.wsm_keep.specs.Holds.{Written, read, text_of}
-use Rattle.wsm_keep.specs.Items.{queue_of}
-use Rattle.wsm_keep.specs.Staying.{row_of, staying}
-use Rattle.wsm_keep.proofs.Items.{queue_of-more}
+use Rattle.wsm_keep.specs.Items.{joined}
+use Rattle.wsm_keep.specs.Staying.{staying}
 use Rattle.wsm_keep.proofs.Natural.{staying_through}
 use Rattle.wsm_kept.specs.Head.{head_tag}
 use Rattle.wsm_kept.specs.Kept.{Cells, kept_rows, rows_of, with_text, written}
-use Rattle.wsm_kept.specs.Texts.{joined, rows_text}
+use Rattle.wsm_kept.specs.Texts.{rows_text}
 
 pub rows_text-more : (rows : List Cells) (row : Cells) → rows_text (rows ++ row ∷ []) ≡ rows_text rows ++ row_text default_writer row
 unfolding rows_text
 rows_text-more [] row = append-nil (row_text default_writer row)
 rows_text-more (r ∷ rs) row = rw (rows_text-more rs row) (sym (append_assoc (row_text default_writer r) (rows_text rs) (row_text default_writer row)))
-
--- the text of one row more that was queued
-pub joined-more : (items : List Item) (i : Item) → joined (map row_of (queue_of (items ++ i ∷ []))) ≡ joined (map row_of (queue_of items)) ++ i.text.items
-unfolding joined
-joined-more items i = ap (λ ds. joined (map row_of ds)) (queue_of-more items i)
 
 joined_rows : (q : Query) (rows : List Cells) → joined (map text_of (map (with_text q) rows)) ≡ rows_text (reverse rows)
 unfolding joined rows_text

@@ -7,11 +7,6 @@ unfoldable pub rows_text : List (List (List ℕ)) → List ℕ
 rows_text [] = []
 rows_text (row ∷ rows) = row_text default_writer row ++ rows_text rows
 
--- texts of which the newest stands first, in their order
-unfoldable pub joined : List (List ℕ) → List ℕ
-joined [] = []
-joined (text ∷ before) = joined before ++ text
-
 a_comma_is_quoted : rows_text ((codes "r" ∷ codes "a,b" ∷ []) ∷ (codes "w" ∷ codes "5" ∷ []) ∷ []) ≡ codes "r,\"a,b\"\nw,5\n"
 unfolding rows_text escaped fields_text is_blank
 a_comma_is_quoted = refl

@@ -96,7 +96,7 @@ impl Pass {
         if self.most < self.run.counts().lines {
             return self.stop();
         }
-        self.keep(alloc, row, told)?;
+        self.keep(row, told)?;
         self.go_on()
     }
 
@@ -126,7 +126,7 @@ impl Pass {
     }
 
     // Keeps a row of which this is told, if it may stay.
-    fn keep(&mut self, alloc: Global, row: &ByteRecord, told: Option<Judged>) -> Result<(), KeepEnd>
+    fn keep(&mut self, row: &ByteRecord, told: Option<Judged>) -> Result<(), KeepEnd>
         requires { cutter.IsReady self.old.cutter }
         ensures ready { cutter.IsReady self.new.cutter }
         ensures cutter { (p : Program) (past : List Cells) → Tells (query_of p) (written (query_of p) past) (event_of_cells p.header.schema (fields_of row.now)) told
@@ -134,13 +134,13 @@ impl Pass {
         ensures others { self.new ≡ record self.old { cutter = self.new.cutter; text = self.new.text } }
     {
         match told {
-            Some(judged) => self.keep_event(alloc, row, judged),
+            Some(judged) => self.keep_event(row, judged),
             None => Ok(()),
         }
     }
 
     // Keeps the row of an event that does this, if it may stay.
-    fn keep_event(&mut self, alloc: Global, row: &ByteRecord, judged: Judged) -> Result<(), KeepEnd>
+    fn keep_event(&mut self, row: &ByteRecord, judged: Judged) -> Result<(), KeepEnd>
         requires { cutter.IsReady self.old.cutter }
         ensures ready { cutter.IsReady self.new.cutter }
         ensures cutter { (p : Program) (past : List Cells) → IsTurn (query_of p) (written (query_of p) past) (event_of_cells p.header.schema (fields_of row.now)) judged
@@ -152,8 +152,7 @@ impl Pass {
             return Ok(());
         }
         put_text(row, &mut self.text)?;
-        let text = self.text.as_slice().to_vec(alloc)?;
-        self.cutter.take(judged, text)?;
+        self.cutter.take(judged, &self.text)?;
         Ok(())
     }
 

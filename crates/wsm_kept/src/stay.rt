@@ -5,11 +5,10 @@ ghost use Rattle.wsm_program.specs.Program.{Program};
 ghost use Rattle.wsm_machine.specs.Meaning.{query_of};
 ghost use Rattle.wsm_csv.specs.Records.{AreAll};
 ghost use Rattle.wsm_csv.specs.Rows.{Follows};
-ghost use Rattle.wsm_keep.specs.Items.{queue_of};
+ghost use Rattle.wsm_keep.specs.Items.{joined};
 ghost use Rattle.wsm_keep.specs.Staying.{row_of};
 ghost use Rattle.wsm_cut.specs.Cutter.{Fits, IsReady};
 ghost use Rattle.wsm_kept.specs.Kept.{Cells, counts_of, rows_of, written};
-ghost use Rattle.wsm_kept.specs.Texts.{joined};
 ghost use Rattle.wsm_kept.specs.Run.{Fits as RunFits};
 ghost use Rattle.wsm_kept.specs.Stay.{IsStay};
 
@@ -21,7 +20,7 @@ use std::alloc::{AllocError, Global};
 use std::io::Read;
 use wsm_csv::Rows;
 use wsm_cut::Cutter;
-use wsm_keep::Item;
+use wsm_keep::Queue;
 use wsm_rules::Verified;
 
 // What a run reads in front of rows that stay: the tag of a head alone, which is no event either.
@@ -61,7 +60,7 @@ pub fn stay_of(alloc: Global, verified: Verified, cutter: Cutter) -> Result<Stay
     ensures { (past : List Cells) → Fits verified cutter (written (query_of verified) past) → IfOk result (IsStay (query_of verified) past) }
 {
     let queue = cutter.finish()?;
-    let text = text_of(alloc, queue.items())?;
+    let text = text_of(alloc, &queue)?;
     drop(queue);
     let records = verified.program().header().clock.records.unsigned_abs();
     let own = counts_over(alloc, verified, &text)?;
@@ -69,13 +68,11 @@ pub fn stay_of(alloc: Global, verified: Verified, cutter: Cutter) -> Result<Stay
 }
 
 // The bytes of a row that is no event, and of the rows of a queue.
-fn text_of(alloc: Global, items: &[Item]) -> Result<Vec<u8>, AllocError>
-    ensures { IfOk result (λ text. text.items ≡ codes "kept\n" ++ joined (map row_of (queue_of items.now))) }
+fn text_of(alloc: Global, queue: &Queue) -> Result<Vec<u8>, AllocError>
+    ensures { IfOk result (λ text. text.items ≡ codes "kept\n" ++ joined (map row_of queue.now)) }
 {
     let mut text = FRONT.to_vec(alloc)?;
-    for item in items {
-        text.extend_from_slice(&item.text)?;
-    }
+    queue.add_texts(&mut text)?;
     Ok(text)
 }
 

@@ -16,8 +16,9 @@ returns c =
     let next : SFits w64 (c.args.time +ℤ pos 1) = search rules in
     let keys = c.in_ok-keys.keys.items in
     let f : Firsts = record { each = c.in_ok-each.each; others = to_z w64 (of_z w64 (to_z w64 (of_z w64 c.args.time) +ℤ pos 1)) } in
+    let (texts, is) = c.items.ensures in
     let are : AreOfKeys c.args.gap keys c.args.queue.now =
-    subst (λ (queue : List Queued). AreOfKeys c.args.gap keys queue) c.items.ensures (subst (λ (g : ℤ). AreOfKeys g keys (queue_of c.items.result.now)) (to_z-of_z gap) c.in_ok-keys.ensures) in
+    subst (λ (queue : List Queued). AreOfKeys c.args.gap keys queue) is (subst (λ (g : ℤ). AreOfKeys g keys (queue_of texts c.items.result.now)) (to_z-of_z gap) (c.in_ok-keys.ensures texts)) in
     let firsts : map (λ first. first -ℤ pos 1) f.each.items ≡ map (λ (s : Live). unparted_time c.args.gap c.args.time s.windows) keys =
     (simp int.to_z-of_z at c.in_ok-each.ensures) ∙ ap (map (λ (s : Live). unparted_time c.args.gap c.args.time s.windows)) c.deref.ensures.value in
     firsts_are c.args.gap c.args.time f keys c.args.queue.now are firsts (ap (λ (t : ℤ). to_z w64 (of_z w64 (t +ℤ pos 1))) (to_z-of_z time) ∙ to_z-of_z next)

@@ -6,10 +6,9 @@ use Rattle.wsm_program.specs.Program.{Header, Program}
 use Rattle.wsm_program.specs.View.{header_of}
 use Rattle.wsm_rules.proofs.Lawful.{IsLawful, lawful_seen}
 use Rattle.wsm_machine.specs.Meaning.{query_of}
-use Rattle.wsm_keep.specs.Holds.{Queued}
 use Rattle.wsm_keep.specs.Staying.{row_of}
 use Rattle.wsm_kept.specs.Kept.{Cells, counts_of, in_place, kept_rows, rows_of, written}
-use Rattle.wsm_kept.specs.Texts.{joined, rows_text}
+use Rattle.wsm_kept.specs.Texts.{rows_text}
 use Rattle.wsm_kept.proofs.Passed.{same_cells, text_kept}
 use Rattle.wsm_kept.proofs.stay.stay_of.Goals as goal
 
@@ -22,7 +21,6 @@ returns c = λ past is.
     let q : Query = query_of p in
     let text : c.in_ok-text.text.items ≡ codes "kept\n" ++ rows_text (kept_rows q past) =
     c.in_ok-text.ensures
-    ∙ ap (λ (items : List Queued). codes "kept\n" ++ joined (map row_of items)) c.items.ensures
     ∙ text_kept q past (map row_of c.in_ok-queue.queue) (c.in_ok-queue.ensures p (written q past) is) in
     let (cells, all, counts) = c.in_ok-own.ensures in
     let same : cells ≡ in_place q past = same_cells q past c.deref.result.now cells (c.deref.ensures.value ∙ text) all in

@@ -11,7 +11,7 @@ returns-in-Panes-clause-fits c = λ q rows e lawful fits told.
     on_ok c.queue_for_panes.result
     (λ queue. record {
       of = settings_of q old new done.settings fits.of;
-      queues = next_for_panes q lawful.shape lawful.timely old rows fits.queues e c.args.text.items c.args.judged told new (sym fits.of.form ∙ c.in-Panes.is) done.since done.before queue;
+      queues = next_for_panes q lawful.shape lawful.timely old rows fits.queues e c.args.text.now c.args.judged told new (sym fits.of.form ∙ c.in-Panes.is) done.since done.before queue;
     })
     done.queue
 
@@ -23,7 +23,7 @@ returns-in_default c = let old = c.args.self.now in let new = c.queue_for_stream
       on_ok_all c.queue_for_streams.result
       (λ before queue since. record {
         of = settings_of q old new done.settings fits.of;
-        queues = next_for_streams q lawful.shape lawful.timely old rows fits.queues e c.args.text.items c.args.judged told new (λ panes. c.in_default.not-Panes (fits.of.form ∙ panes)) before queue since;
+        queues = next_for_streams q lawful.shape lawful.timely old rows fits.queues e c.args.text.now c.args.judged told new (λ panes. c.in_default.not-Panes (fits.of.form ∙ panes)) before queue since;
       })
       done.before done.queue done.since;
 }

@@ -15,6 +15,6 @@ returns-then-not-takes-clause-cutter c = λ p past turn fits.
 pub returns-clause-cutter : goal.returns-clause-cutter
 returns-clause-cutter c = λ p past turn fits.
     let cells = fields_of c.args.row.now in
-    let text : c.in_ok-text.text.items ≡ row_text default_writer cells = search rules in
-    kept_event p c.take.new.self past cells turn.event c.in_ok-text.text.items turn.is text
+    let text : c.deref.result.now ≡ row_text default_writer cells = search rules in
+    kept_event p c.take.new.self past cells turn.event c.deref.result.now turn.is text
     (c.in_ok-take.ensures.fits p (written (query_of p) past) turn.event fits turn.told)

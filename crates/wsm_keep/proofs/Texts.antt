@@ -1,0 +1,53 @@
+-- Texts behind the others change none in front of them.
+use Rattle.std.proofs.Common.{◌≡◌, ℕ, ◌≤◌, List, [], ◌∷◌, ◌++◌, length, reverse, sym, ap, ◌∙◌, arith}
+use Rattle.std.proofs.lemmas.List.{drop_at, length-append, reverse-append, take-append-le}
+use Rattle.std.proofs.lemmas.List.Elements.{All-head, All-push, All-same, All-tail, All-weaker, recursion_from_All}
+use Rattle.std.proofs.lemmas.Slice.{between_is, between_to_end}
+use Rattle.std.specs.Prelude.{drop, slice_range}
+use Rattle.std.specs.List.{All}
+use Rattle.wsm_semantics.proofs.Each.{map-each}
+use Rattle.wsm_keep.specs.declared.queue.Item.{Item}
+use Rattle.wsm_keep.specs.Items.{Lies, item_of, queue_of}
+use Rattle.wsm_keep.proofs.Items.{queue_of-more}
+
+module _ (texts more : List ℕ) where
+  range_stays : (a b : ℕ) → b ≤ length texts → slice_range (texts ++ more) a b ≡ slice_range texts a b
+  range_stays a b within =
+      between_is (texts ++ more) a b
+      ∙ ap (drop a) (take-append-le b texts more within)
+      ∙ sym (between_is texts a b)
+
+  item_stays : (i : Item) → Lies texts i → item_of (texts ++ more) i ≡ item_of texts i
+  item_stays i lies = λ at. (i.what, range_stays i.start i.end lies.1 at)
+
+  lies_still : (i : Item) → Lies texts i → Lies (texts ++ more) i
+  lies_still i lies = (lies.0, omega (arith, lies.1, length-append texts more))
+
+  pub queue_stays : (items : List Item) → All (Lies texts) items → queue_of (texts ++ more) items ≡ queue_of texts items
+  queue_stays items lie =
+      ap reverse
+      (map-each (item_of (texts ++ more)) (item_of texts) items
+      (recursion_from_All (λ i. item_of (texts ++ more) i ≡ item_of texts i) items (All-weaker (Lies texts) (λ i. item_of (texts ++ more) i ≡ item_of texts i) item_stays items lie)))
+
+  pub all_lie : (items : List Item) → All (Lies texts) items → All (Lies (texts ++ more)) items
+  all_lie items lie = All-weaker (Lies texts) (Lies (texts ++ more)) lies_still items lie
+
+-- a text behind the others, at its item
+module _ (texts text : List ℕ) (items : List Item) (lie : All (Lies texts) items) (item : Item) (from : item.start ≡ length texts) (to : item.end ≡ length (texts ++ text)) where
+  text_there : slice_range (texts ++ text) item.start item.end ≡ text
+  text_there =
+      between_to_end (texts ++ text) item.start item.end (omega (arith, to))
+      ∙ drop_at texts text item.start (sym from)
+
+  pub item_added : queue_of (texts ++ text) (items ++ item ∷ []) ≡ (item.what, text) ∷ queue_of texts items
+  item_added =
+      queue_of-more (texts ++ text) items item
+      ∙ (λ i. (item.what, text_there i) ∷ queue_stays texts text items lie i)
+
+  pub item_lies : All (Lies (texts ++ text)) (items ++ item ∷ [])
+  item_lies = All-push (Lies (texts ++ text)) items item (all_lie texts text items lie) (omega (arith, from, to, length-append texts text), omega (arith, to))
+
+-- the other way round
+pub all_turned : (P : Item → Type 0) (items : List Item) → All P items → All P (reverse items)
+all_turned P [] all = all
+all_turned P (i ∷ items) all = All-same P (reverse (i ∷ items)) (reverse items ++ i ∷ []) (reverse-append (i ∷ []) items) (All-push P (reverse items) i (all_turned P items (All-tail P i items all)) (All-head P i items all))
