@@ -1,0 +1,17 @@
+//! Replaces a file by one that is written beside it, while nobody else may write it.
+//!
+//! [`Place`] is where a file lies, and holds its lock. The new file is made beside it, gets the owner and the rights
+//! of the old one, is synced, and is renamed to it: so who reads finds the old file whole, or the new one.
+//! [`WholeLines`] reads the lines that are to be rewritten, and hands on all that is behind them.
+//!
+//! What a file has no clause can say: of these calls it is proved that they are safe and end. `trials/keep` tries what
+//! they do to files.
+#![tactic(auto)]
+
+pub use fault::ReplaceFault;
+pub use lines::{LinesFault, WholeLines};
+pub use place::{Place, size_of};
+
+mod fault;
+mod lines;
+mod place;
