@@ -54,7 +54,7 @@
 //!
 //! `turns` keeps what the rows so far come to, and `run` goes from the reader to the device. What goes from
 //! texts and bytes to programs, as [`compile_text`], [`migrate`] and [`judge_input`], stands in `wsm_inputs`, and
-//! [`command_of`], which reads the words of the program's command, in `wsm_words`: both are handed on.
+//! is handed on.
 #![tactic(auto)]
 
 pub use run::{run_input, run_program, run_query};
@@ -69,7 +69,6 @@ pub use wsm_inputs::{
 pub use wsm_program::DecodeRefusal;
 pub use wsm_rules::Rejection;
 pub use wsm_tokens::{Fault, Position};
-pub use wsm_words::{Job, WordsRefusal, command_of};
 
 mod run;
 mod turns;

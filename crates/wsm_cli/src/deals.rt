@@ -1,13 +1,15 @@
 //! What dealing does with files and standard input.
 
-use crate::jobs::{end_of, read, write_all};
+use crate::files::{end_of, read, write_all};
 use crate::stop::{Stop, WordsFault};
+use std::alloc::{AllocError, Global};
 use std::fs::{self, File};
 use std::io::{self, Read};
 use std::os::unix::fs::MetadataExt;
 use std::rt::Files;
 use wsm::{Ahead, End, Guarded, Rows, Shares, SharesRefusal, deal};
 use wsm_deal::add_part;
+use wsm_words::DealJob;
 
 /// The name that standard input has among the files.
 const STANDARD_INPUT: &str = "/dev/stdin";
@@ -15,20 +17,16 @@ const STANDARD_INPUT: &str = "/dev/stdin";
 /// Deals rows to parts, or tells the keys of one.
 pub fn deal_or_tell<R: Files + AllocGlobal + Input + Print>(
     rt: &R,
-    keys_of: bool,
-    keys: &String,
-    parts: &String,
-    out: &String,
-    rows: Option<&String>,
+    job: &DealJob,
 ) -> Result<bool, Stop> {
-    if keys_of && rows.is_some() {
+    if job.keys_of && job.rows.is_some() {
         return Err(Stop::Words(WordsFault::RowsOfKeys));
     }
-    let shares = shares_of(rt, keys, parts)?;
-    if keys_of {
-        Ok(clause(rt, &shares, out)?)
+    let shares = shares_of(rt, &job.keys, &job.parts)?;
+    if job.keys_of {
+        Ok(clause(rt, &shares, &job.out)?)
     } else {
-        dealt(rt, &shares, out, keys, rows)
+        dealt(rt, &shares, job)
     }
 }
 
@@ -60,19 +58,17 @@ fn clause<R: AllocGlobal + Print>(rt: &R, shares: &Shares, part: &String) -> Res
 fn dealt<R: Files + AllocGlobal + Input>(
     rt: &R,
     shares: &Shares,
-    out: &String,
-    keys: &String,
-    rows: Option<&String>,
+    job: &DealJob,
 ) -> Result<bool, Stop> {
-    match rows {
+    match &job.rows {
         None => {
-            require_others(rt, shares, out, keys, STANDARD_INPUT)?;
-            Ok(deal_over(rt, shares, out, rt.reader())?)
+            require_others(rt, shares, job, STANDARD_INPUT)?;
+            Ok(deal_over(rt, shares, &job.out, rt.reader())?)
         }
         Some(name) => match File::open(rt, name.as_str()) {
             Ok(rows) => {
-                require_others(rt, shares, out, keys, name.as_str())?;
-                Ok(deal_over(rt, shares, out, rows)?)
+                require_others(rt, shares, job, name.as_str())?;
+                Ok(deal_over(rt, shares, &job.out, rows)?)
             }
             Err(error) => Err(Stop::End(end_of(&error, End::ReadFailed))),
         },
@@ -83,23 +79,28 @@ fn dealt<R: Files + AllocGlobal + Input>(
 fn require_others<R: Files + AllocGlobal>(
     rt: &R,
     shares: &Shares,
-    out: &String,
-    keys: &String,
+    job: &DealJob,
     rows: &str,
 ) -> Result<(), Stop> {
+    let keys = job.keys.as_str();
     let rows_place = place_of(rt, rows);
-    let keys_place = place_of(rt, keys.as_str());
+    let keys_place = place_of(rt, keys);
     for number in 0..shares.parts() {
-        let name = format!(in rt.alloc(); "{out}{number}")?;
+        let name = part_name(rt.alloc(), &job.out, number)?;
         let place = place_of(rt, name.as_str());
         if name.as_str() == rows || is_same(place, rows_place) {
             return Err(Stop::Words(WordsFault::RowsAsPart(number)));
         }
-        if name.as_str() == keys.as_str() || is_same(place, keys_place) {
+        if name.as_str() == keys || is_same(place, keys_place) {
             return Err(Stop::Words(WordsFault::KeysAsPart(number)));
         }
     }
     Ok(())
+}
+
+// The name of a part's file.
+fn part_name(alloc: Global, out: &String, number: usize) -> Result<String, AllocError> {
+    format!(in alloc; "{out}{number}")
 }
 
 // Where a file lies: its device, and its number there.
@@ -121,7 +122,7 @@ fn deal_over<R: Files + AllocGlobal, I: Read + Drop>(
 ) -> Result<bool, End> {
     let mut parts = Vec::new(rt.alloc());
     for number in 0..shares.parts() {
-        let name = format!(in rt.alloc(); "{out}{number}")?;
+        let name = part_name(rt.alloc(), out, number)?;
         match File::create(rt, name.as_str()) {
             Ok(file) => add_part(rt.alloc(), &mut parts, Guarded::new(file))?,
             Err(error) => return Err(end_of(&error, End::WriteFailed)),

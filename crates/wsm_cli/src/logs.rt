@@ -3,7 +3,7 @@
 ghost use Rattle.wsm_turns.specs.Clocks.{AreClocks};
 
 use crate::counts::Teller;
-use crate::jobs::end_of;
+use crate::files::{accepted, end_of};
 use crate::progress::Watched;
 use crate::sources::{Bound, source_for};
 use crate::stop::Stop;
@@ -16,6 +16,49 @@ use wsm_lines::Source;
 use wsm_log_rows::write_rows;
 use wsm_log_run::{end_of_log, run_log};
 use wsm_rules::Verified;
+use wsm_words::RowsJob;
+
+// An accepted program, and the source by which the lines of its log are read.
+struct Ready {
+    verified: Verified,
+    bound: Bound,
+}
+
+// It is let go in one call, however many parts it has.
+impl Drop for Ready {
+    fn drop(self) {
+        let Ready {
+            verified: _,
+            bound: _,
+        } = self;
+    }
+}
+
+impl Ready {
+    // Runs the program over a log.
+    fn run<R: AllocGlobal + Print + Eprint, I: Read + Drop>(
+        self,
+        rt: &R,
+        log: I,
+    ) -> Result<bool, End>
+        requires { AreClocks self.bound.clocks }
+    {
+        let Ready { verified, bound } = self;
+        let mut output = Guarded::new(io::writer(rt));
+        let mut teller = Teller::new(rt);
+        let end = run_log(
+            rt.alloc(),
+            verified,
+            bound.source,
+            bound.clocks,
+            log,
+            &mut output,
+            &mut teller,
+        )?;
+        teller.tell(end.counts);
+        Ok(true)
+    }
+}
 
 /// Runs an accepted program over a log, whose lines are read by a source, or over standard input.
 pub fn run_from<R: Files + AllocGlobal + Input + Print + Eprint + Clock>(
@@ -26,48 +69,35 @@ pub fn run_from<R: Files + AllocGlobal + Input + Print + Eprint + Clock>(
     is_looked_at: bool,
 ) -> Result<bool, Stop> {
     let bound = source_for(rt, source, &verified)?;
+    let ready = Ready { verified, bound };
     match log {
-        None => Ok(log_over(rt, verified, bound, rt.reader())?),
+        None => Ok(ready.run(rt, rt.reader())?),
         Some(log) => {
             let log = opened(rt, log, is_looked_at)?;
-            Ok(log_over(rt, verified, bound, log)?)
+            Ok(ready.run(rt, log)?)
         }
     }
 }
 
-fn log_over<R: AllocGlobal + Print + Eprint, I: Read + Drop>(
+/// Writes the rows of a log's lines by a source, for a query or a program.
+pub fn write_log_rows<R: Files + AllocGlobal + Input + Print + Eprint + Clock>(
     rt: &R,
-    verified: Verified,
-    bound: Bound,
-    log: I,
-) -> Result<bool, End>
-    requires { AreClocks bound.clocks }
-{
-    let mut output = Guarded::new(io::writer(rt));
-    let mut teller = Teller::new(rt);
-    let end = run_log(
-        rt.alloc(),
-        verified,
-        bound.source,
-        bound.clocks,
-        log,
-        &mut output,
-        &mut teller,
-    )?;
-    teller.tell(end.counts);
-    Ok(true)
-}
-
-/// Writes the rows of a log's lines by a source.
-pub fn rows_from<R: Files + AllocGlobal + Input + Print + Eprint + Clock>(
-    rt: &R,
-    verified: &Verified,
-    source: &String,
-    log: Option<&String>,
+    job: &RowsJob,
     is_looked_at: bool,
 ) -> Result<bool, Stop> {
-    let bound = source_for(rt, source, verified)?;
-    match log {
+    let verified = accepted(rt, job.program, &job.query)?;
+    rows_by(rt, &verified, job, is_looked_at)
+}
+
+// The same for an accepted program.
+fn rows_by<R: Files + AllocGlobal + Input + Print + Eprint + Clock>(
+    rt: &R,
+    verified: &Verified,
+    job: &RowsJob,
+    is_looked_at: bool,
+) -> Result<bool, Stop> {
+    let bound = source_for(rt, &job.source, verified)?;
+    match &job.rows {
         None => Ok(rows_over(rt, verified, bound.source, rt.reader())?),
         Some(log) => {
             let log = opened(rt, log, is_looked_at)?;

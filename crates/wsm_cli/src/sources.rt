@@ -3,7 +3,7 @@
 ghost use Rattle.std.specs.Prelude.{IfOk};
 ghost use Rattle.wsm_turns.specs.Clocks.{AreClocks};
 
-use crate::jobs::{end_of, read};
+use crate::files::{end_of, read};
 use crate::stop::Stop;
 use std::fs;
 use std::io::ErrorKind;
@@ -41,7 +41,20 @@ pub fn source_for<R: Files + AllocGlobal>(
         return Err(refused(rt, SourceFault::NotToml, "", ""));
     };
     let description = describe(rt.alloc(), text)?;
-    let source = source_of(rt, name, text, &description, verified)?;
+    bound_by(rt, name, text, &description, verified)
+}
+
+// What the text of a source comes to, of which it is known what it says.
+fn bound_by<R: Files + AllocGlobal>(
+    rt: &R,
+    name: &String,
+    text: &str,
+    description: &Description,
+    verified: &Verified,
+) -> Result<Bound, Stop>
+    ensures { IfOk result (λ bound. AreClocks bound.clocks) }
+{
+    let source = source_of(rt, name, text, description, verified)?;
     let clocks = clocks_for(rt, text, description.clock, verified)?;
     Ok(Bound { source, clocks })
 }

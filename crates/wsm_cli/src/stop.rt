@@ -1,17 +1,30 @@
-//! How a job ended early.
+//! How a job ended early: what is told of it, and the status.
 
 use std::alloc::{AllocError, AllocFailed};
 use std::fmt;
-use wsm::End;
+use wsm::{End, status_of};
 use wsm_kept::KeepEnd;
+use wsm_replace::ReplaceFault;
 use wsm_source::SourceRefusal;
 
-/// How a job ended early.
+/// The words were refused.
+pub const REFUSED_WORDS: u8 = 2;
+
+// A source was refused, as a query's text may be.
+const REFUSED_SOURCE: u8 = 3;
+
+// Another one holds the file of the rows: again after a pause.
+const HELD_ROWS: u8 = 8;
+
+// The rows aren't those of the query, or are damaged: somebody must look.
+const UNFIT_ROWS: u8 = 9;
+
+/// How a job ended early. Its text is what the program prints behind its name.
 #[derive(Drop)]
 pub enum Stop {
     /// Its source is refused; nothing was written.
     Source(SourceRefusal),
-    /// Its words don't go together; nothing was made or written.
+    /// Its words are no text, or don't go together; nothing was made or written.
     Words(WordsFault),
     /// Its rows aren't cut.
     Rows(RowsFault),
@@ -19,9 +32,36 @@ pub enum Stop {
     End(End),
 }
 
+impl Stop {
+    /// The exit status of the program.
+    pub fn status(&self) -> u8 {
+        match self {
+            Stop::Source(SourceRefusal::Fault(_)) => REFUSED_SOURCE,
+            Stop::Source(SourceRefusal::Memory) => status_of(End::Memory),
+            Stop::Words(_) => REFUSED_WORDS,
+            Stop::Rows(RowsFault::Held) => HELD_ROWS,
+            Stop::Rows(_) => UNFIT_ROWS,
+            Stop::End(end) => status_of(*end),
+        }
+    }
+}
+
+impl fmt::Display for Stop {
+    fn fmt<W: fmt::Write>(&self, f: &mut fmt::Formatter<W>) -> fmt::Result {
+        match self {
+            Stop::Source(refusal) => write!(f, "{refusal}"),
+            Stop::Words(fault) => write!(f, "{fault}"),
+            Stop::Rows(fault) => write!(f, "{fault}"),
+            Stop::End(end) => write!(f, "{end}"),
+        }
+    }
+}
+
 /// Why words that are taken one by one don't go together.
 #[derive(Clone, Copy)]
 pub enum WordsFault {
+    /// One is no text.
+    NoText,
     /// The keys of a part are asked for, and rows are named.
     RowsOfKeys,
     /// The file of the rows is that of a part.
@@ -30,6 +70,18 @@ pub enum WordsFault {
     KeysAsPart(usize),
     /// An option takes a number, and has none.
     NoNumber(&'static str),
+}
+
+impl fmt::Display for WordsFault {
+    fn fmt<W: fmt::Write>(&self, f: &mut fmt::Formatter<W>) -> fmt::Result {
+        match self {
+            WordsFault::NoText => f.write_str("a word is not UTF-8"),
+            WordsFault::RowsOfKeys => f.write_str("--keys-of takes no ROWS"),
+            WordsFault::RowsAsPart(part) => write!(f, "ROWS is the file of part {part}"),
+            WordsFault::KeysAsPart(part) => write!(f, "KEYS is the file of part {part}"),
+            WordsFault::NoNumber(option) => write!(f, "{option} takes a number"),
+        }
+    }
 }
 
 /// Why rows aren't cut.
@@ -93,6 +145,17 @@ impl From<KeepEnd> for Stop {
             KeepEnd::ReadFailed => Stop::End(End::ReadFailed),
             KeepEnd::Memory => Stop::End(End::Memory),
             KeepEnd::WriteFailed => Stop::End(End::WriteFailed),
+        }
+    }
+}
+
+impl From<ReplaceFault> for Stop {
+    fn from(fault: ReplaceFault) -> Stop {
+        match fault {
+            ReplaceFault::Held => Stop::Rows(RowsFault::Held),
+            ReplaceFault::Memory => Stop::End(End::Memory),
+            ReplaceFault::ReadFailed => Stop::End(End::ReadFailed),
+            ReplaceFault::WriteFailed => Stop::End(End::WriteFailed),
         }
     }
 }

@@ -4,8 +4,8 @@ use Rattle.clap.specs.Words.{App, Row, Rule, Text, IsAmong, Kinds, first_of, kin
 use Rattle.clap.specs.declared.builder.ArgAction.TheVariants.{SetTrue}
 use Rattle.clap.specs.declared.error.Error.{Error}
 use Rattle.clap.specs.declared.error.kind.ErrorKind.TheVariants.{OutOfMemory}
-use Rattle.wsm_words.specs.declared.words.Job.{Job}
-use Rattle.wsm_words.specs.declared.words.Job.TheVariants.{Run, Compile, Migrate, Verify, Explain, Deal, Rows, Keep}
+use Rattle.wsm_words.specs.declared.job.Job.{Job}
+use Rattle.wsm_words.specs.declared.job.Job.TheVariants.{Run, Compile, Migrate, Verify, Explain, Deal, Rows, Keep}
 use Rattle.wsm_words.specs.declared.words.WordsRefusal.{WordsRefusal}
 use Rattle.wsm_words.specs.declared.words.WordsRefusal.TheVariants.{Words, Memory}
 
@@ -113,25 +113,25 @@ NamesRows entries rows = option_map string_bytes rows ≡ rows_named (first_of (
 
 -- the job has what the entries of the command of its name have
 abbrev pub IsJob : Text → List Row → Job → Type 0
-IsJob name entries (Run program from query rows) =
-    (name ≡ codes "run") × SaysFlag (one_of (codes "program") entries) program
-    × HasOption entries (codes "from") from × Names entries (codes "query") query × NamesRows entries rows
-IsJob name entries (Compile query out) = (name ≡ codes "compile") × Names entries (codes "query") query × Names entries (codes "out") out
-IsJob name entries (Migrate program out) = (name ≡ codes "migrate") × Names entries (codes "program") program × Names entries (codes "out") out
-IsJob name entries (Verify query from program) =
-    (name ≡ codes "verify") × SaysFlag (one_of (codes "query") entries) query
-    × HasOption entries (codes "from") from × Names entries (codes "program") program
-IsJob name entries (Explain query program) = (name ≡ codes "explain") × SaysFlag (one_of (codes "query") entries) query × Names entries (codes "program") program
-IsJob name entries (Deal keys_of keys parts out rows) =
-    (name ≡ codes "deal") × SaysFlag (one_of (codes "keys-of") entries) keys_of
-    × Names entries (codes "keys") keys × Names entries (codes "parts") parts × Names entries (codes "out") out × NamesRows entries rows
-IsJob name entries (Rows program source query rows) =
-    (name ≡ codes "rows") × SaysFlag (one_of (codes "program") entries) program
-    × Names entries (codes "source") source × Names entries (codes "query") query × NamesRows entries rows
-IsJob name entries (Keep program taken most query rows) =
-    (name ≡ codes "keep") × SaysFlag (one_of (codes "program") entries) program
-    × HasOption entries (codes "taken") taken × HasOption entries (codes "most") most
-    × Names entries (codes "query") query × NamesRows entries rows
+IsJob name entries (Run job) =
+    (name ≡ codes "run") × SaysFlag (one_of (codes "program") entries) job.program
+    × HasOption entries (codes "from") job.from × Names entries (codes "query") job.query × NamesRows entries job.rows
+IsJob name entries (Compile job) = (name ≡ codes "compile") × Names entries (codes "query") job.query × Names entries (codes "out") job.out
+IsJob name entries (Migrate job) = (name ≡ codes "migrate") × Names entries (codes "program") job.program × Names entries (codes "out") job.out
+IsJob name entries (Verify job) =
+    (name ≡ codes "verify") × SaysFlag (one_of (codes "query") entries) job.query
+    × HasOption entries (codes "from") job.from × Names entries (codes "program") job.program
+IsJob name entries (Explain job) = (name ≡ codes "explain") × SaysFlag (one_of (codes "query") entries) job.query × Names entries (codes "program") job.program
+IsJob name entries (Deal job) =
+    (name ≡ codes "deal") × SaysFlag (one_of (codes "keys-of") entries) job.keys_of
+    × Names entries (codes "keys") job.keys × Names entries (codes "parts") job.parts × Names entries (codes "out") job.out × NamesRows entries job.rows
+IsJob name entries (Rows job) =
+    (name ≡ codes "rows") × SaysFlag (one_of (codes "program") entries) job.program
+    × Names entries (codes "source") job.source × Names entries (codes "query") job.query × NamesRows entries job.rows
+IsJob name entries (Keep job) =
+    (name ≡ codes "keep") × SaysFlag (one_of (codes "program") entries) job.program
+    × HasOption entries (codes "taken") job.taken × HasOption entries (codes "most") job.most
+    × Names entries (codes "query") job.query × NamesRows entries job.rows
 
 -- a job is that of the subcommand and its entries
 abbrev pub IsJobOf : Option (Text × List Row) → Job → Type 0

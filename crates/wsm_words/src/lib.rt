@@ -8,15 +8,19 @@
 //! use wsm_words::{Job, command_of};
 //!
 //! let job = command_of(alloc, &["wsm", "compile", "sums.wsm", "sums.bin"])?;
-//! if let Job::Compile { query, out } = job {
-//!     assert_eq!(rt; query.as_str(), "sums.wsm");
-//!     assert_eq!(rt; out.as_str(), "sums.bin");
+//! if let Job::Compile(job) = &job {
+//!     assert_eq!(rt; job.query.as_str(), "sums.wsm");
+//!     assert_eq!(rt; job.out.as_str(), "sums.bin");
 //! }
 //! ```
 #![tactic(auto)]
 
-pub use words::{Job, WordsRefusal, command_of};
+pub use job::{
+    CompileJob, DealJob, ExplainJob, Job, KeepJob, MigrateJob, RowsJob, RunJob, VerifyJob,
+};
+pub use words::{WordsRefusal, command_of};
 
 mod help;
+mod job;
 mod version;
 mod words;

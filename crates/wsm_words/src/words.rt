@@ -5,93 +5,13 @@ ghost use Rattle.clap.specs.Words.{app_of, first_of, one_of, new_app, fault_of, 
 ghost use Rattle.wsm_words.specs.Words.{the_app, query_app, required_app, run_app, compile_app, judging_apps, verify_app, explain_app, migrate_app, writing_app, dealing_app, deal_app, rows_app, row_apps, keeping_app, keep_app, file_rule, flag_rule, option_rule, rows_rule, AnswersFaults, HasOption, IsJob, IsJobOf, IsMemory, Names, NamesRows, SaysFlag, rows_named};
 
 use crate::help;
+use crate::job::{
+    CompileJob, DealJob, ExplainJob, Job, KeepJob, MigrateJob, RowsJob, RunJob, VerifyJob,
+};
 use crate::version::version_text;
 use clap::error::ErrorKind;
 use clap::{Arg, ArgAction, ArgMatches, Command};
 use std::alloc::{AllocError, Global};
-
-/// What the words ask for. Files are told by their names.
-#[derive(Debug, Drop)]
-pub enum Job {
-    /// To run a query, or a program, over rows, or over the lines of a log.
-    Run {
-        /// Whether the file has the bytes of a program, and not the text of a query.
-        program: bool,
-        /// The file of the source by which the lines of a log are read; none where rows are run over.
-        from: Option<String>,
-        /// The file of the query or the program.
-        query: String,
-        /// The file of the rows or of the log; standard input where none is named, or `-`.
-        rows: Option<String>,
-    },
-    /// To write the program of a query.
-    Compile {
-        /// The file of the query's text.
-        query: String,
-        /// The file that is written.
-        out: String,
-    },
-    /// To write a program in the newest version of the bytes.
-    Migrate {
-        /// The file of the program.
-        program: String,
-        /// The file that is written.
-        out: String,
-    },
-    /// To tell whether a program, or that of a query, is accepted, and whether a source fits it.
-    Verify {
-        /// Whether the file has the text of a query, and not the bytes of a program.
-        query: bool,
-        /// The file of the source that is judged too; none where the program alone is judged.
-        from: Option<String>,
-        /// The file of the program or the query.
-        program: String,
-    },
-    /// To list a program, or that of a query, and to tell whether it is accepted.
-    Explain {
-        /// Whether the file has the text of a query, and not the bytes of a program.
-        query: bool,
-        /// The file of the program or the query.
-        program: String,
-    },
-    /// To deal rows to parts by their keys, or to write the keys of a part as a clause.
-    Deal {
-        /// Whether the keys of one part are written.
-        keys_of: bool,
-        /// The file of the keys.
-        keys: String,
-        /// The number of parts.
-        parts: String,
-        /// What the names of the parts' files begin with, or the number of the part whose keys are written.
-        out: String,
-        /// The file of the rows; standard input where none is named, or `-`.
-        rows: Option<String>,
-    },
-    /// To write the rows that a source reads of a log, as a run over it takes them.
-    Rows {
-        /// Whether the file has the bytes of a program, and not the text of a query.
-        program: bool,
-        /// The file of the source by which the log's lines are read.
-        source: String,
-        /// The file of the query or the program.
-        query: String,
-        /// The file of the log; standard input where none is named, or `-`.
-        rows: Option<String>,
-    },
-    /// To cut rows down to those that a run needs to go on.
-    Keep {
-        /// Whether the file has the bytes of a program, and not the text of a query.
-        program: bool,
-        /// How many lines were taken of what a run over the rows writes; all of them where it isn't said.
-        taken: Option<String>,
-        /// How many bytes of the rows are looked at; all of them where it isn't said.
-        most: Option<String>,
-        /// The file of the query or the program.
-        query: String,
-        /// The file of the rows, which is replaced; standard input where none is named, or `-`.
-        rows: Option<String>,
-    },
-}
 
 /// Why the words ask for nothing.
 #[derive(Debug, Drop)]
@@ -394,12 +314,12 @@ fn run_job(alloc: Global, inner: &ArgMatches<'_>) -> Result<Job, WordsRefusal>
     let from = option_of(alloc, inner, "from")?;
     let query = file_of(alloc, inner, "query")?;
     let rows = rows_in(alloc, inner)?;
-    Ok(Job::Run {
+    Ok(Job::Run(RunJob {
         program,
         from,
         query,
         rows,
-    })
+    }))
 }
 
 // The job of the words behind `compile`.
@@ -409,7 +329,7 @@ fn compile_job(alloc: Global, inner: &ArgMatches<'_>) -> Result<Job, WordsRefusa
 {
     let query = file_of(alloc, inner, "query")?;
     let out = file_of(alloc, inner, "out")?;
-    Ok(Job::Compile { query, out })
+    Ok(Job::Compile(CompileJob { query, out }))
 }
 
 // The job of the words behind `migrate`.
@@ -419,7 +339,7 @@ fn migrate_job(alloc: Global, inner: &ArgMatches<'_>) -> Result<Job, WordsRefusa
 {
     let program = file_of(alloc, inner, "program")?;
     let out = file_of(alloc, inner, "out")?;
-    Ok(Job::Migrate { program, out })
+    Ok(Job::Migrate(MigrateJob { program, out }))
 }
 
 // The job of the words behind `verify`.
@@ -430,11 +350,11 @@ fn verify_job(alloc: Global, inner: &ArgMatches<'_>) -> Result<Job, WordsRefusal
     let query = flag_of(inner, "query");
     let from = option_of(alloc, inner, "from")?;
     let program = file_of(alloc, inner, "program")?;
-    Ok(Job::Verify {
+    Ok(Job::Verify(VerifyJob {
         query,
         from,
         program,
-    })
+    }))
 }
 
 // The job of the words behind `explain`.
@@ -444,7 +364,7 @@ fn explain_job(alloc: Global, inner: &ArgMatches<'_>) -> Result<Job, WordsRefusa
 {
     let query = flag_of(inner, "query");
     let program = file_of(alloc, inner, "program")?;
-    Ok(Job::Explain { query, program })
+    Ok(Job::Explain(ExplainJob { query, program }))
 }
 
 // The job of the words behind `deal`.
@@ -457,13 +377,13 @@ fn deal_job(alloc: Global, inner: &ArgMatches<'_>) -> Result<Job, WordsRefusal>
     let parts = file_of(alloc, inner, "parts")?;
     let out = file_of(alloc, inner, "out")?;
     let rows = rows_in(alloc, inner)?;
-    Ok(Job::Deal {
+    Ok(Job::Deal(DealJob {
         keys_of,
         keys,
         parts,
         out,
         rows,
-    })
+    }))
 }
 
 // The job of the words behind `rows`.
@@ -475,12 +395,12 @@ fn rows_job(alloc: Global, inner: &ArgMatches<'_>) -> Result<Job, WordsRefusal>
     let source = file_of(alloc, inner, "source")?;
     let query = file_of(alloc, inner, "query")?;
     let rows = rows_in(alloc, inner)?;
-    Ok(Job::Rows {
+    Ok(Job::Rows(RowsJob {
         program,
         source,
         query,
         rows,
-    })
+    }))
 }
 
 // The job of the words behind `keep`.
@@ -493,13 +413,13 @@ fn keep_job(alloc: Global, inner: &ArgMatches<'_>) -> Result<Job, WordsRefusal>
     let most = option_of(alloc, inner, "most")?;
     let query = file_of(alloc, inner, "query")?;
     let rows = rows_in(alloc, inner)?;
-    Ok(Job::Keep {
+    Ok(Job::Keep(KeepJob {
         program,
         taken,
         most,
         query,
         rows,
-    })
+    }))
 }
 
 // Whether a parse gives a flag.

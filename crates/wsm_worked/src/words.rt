@@ -3,7 +3,7 @@
 use clap::error::ErrorKind;
 use std::alloc::Global;
 use std::test::Fail;
-use wsm::{Job, WordsRefusal, command_of};
+use wsm_words::{WordsRefusal, command_of};
 
 // The job of the words, as `Debug` writes it.
 fn job(alloc: Global, words: &[&str]) -> Result<String, Fail> {
@@ -17,79 +17,79 @@ fn job(alloc: Global, words: &[&str]) -> Result<String, Fail> {
 const JOBS: [(&[&str], &str); 20] = [
     (
         &["wsm", "run", "q"],
-        "Run { program: false, from: None, query: \"q\", rows: None }",
+        "Run(RunJob { program: false, from: None, query: \"q\", rows: None })",
     ),
     (
         &["wsm", "run", "q", "r"],
-        "Run { program: false, from: None, query: \"q\", rows: Some(\"r\") }",
+        "Run(RunJob { program: false, from: None, query: \"q\", rows: Some(\"r\") })",
     ),
     (
         &["wsm", "run", "--program", "p"],
-        "Run { program: true, from: None, query: \"p\", rows: None }",
+        "Run(RunJob { program: true, from: None, query: \"p\", rows: None })",
     ),
     (
         &["wsm", "run", "p", "r", "--program"],
-        "Run { program: true, from: None, query: \"p\", rows: Some(\"r\") }",
+        "Run(RunJob { program: true, from: None, query: \"p\", rows: Some(\"r\") })",
     ),
     (
         &["wsm", "run", "--", "--program"],
-        "Run { program: false, from: None, query: \"--program\", rows: None }",
+        "Run(RunJob { program: false, from: None, query: \"--program\", rows: None })",
     ),
     (
         &["wsm", "run", "q", "-"],
-        "Run { program: false, from: None, query: \"q\", rows: None }",
+        "Run(RunJob { program: false, from: None, query: \"q\", rows: None })",
     ),
     (
         &["wsm", "run", "-", "./-"],
-        "Run { program: false, from: None, query: \"-\", rows: Some(\"./-\") }",
+        "Run(RunJob { program: false, from: None, query: \"-\", rows: Some(\"./-\") })",
     ),
     (
         &["wsm", "run", "--from", "s", "q", "l"],
-        "Run { program: false, from: Some(\"s\"), query: \"q\", rows: Some(\"l\") }",
+        "Run(RunJob { program: false, from: Some(\"s\"), query: \"q\", rows: Some(\"l\") })",
     ),
     (
         &["wsm", "run", "p", "--from=-", "--program"],
-        "Run { program: true, from: Some(\"-\"), query: \"p\", rows: None }",
+        "Run(RunJob { program: true, from: Some(\"-\"), query: \"p\", rows: None })",
     ),
     (
         &["wsm", "compile", "q", "o"],
-        "Compile { query: \"q\", out: \"o\" }",
+        "Compile(CompileJob { query: \"q\", out: \"o\" })",
     ),
     (
         &["wsm", "migrate", "p", "o"],
-        "Migrate { program: \"p\", out: \"o\" }",
+        "Migrate(MigrateJob { program: \"p\", out: \"o\" })",
     ),
     (
         &["wsm", "verify", "p"],
-        "Verify { query: false, from: None, program: \"p\" }",
+        "Verify(VerifyJob { query: false, from: None, program: \"p\" })",
     ),
     (
         &["wsm", "verify", "--query", "q"],
-        "Verify { query: true, from: None, program: \"q\" }",
+        "Verify(VerifyJob { query: true, from: None, program: \"q\" })",
     ),
     (
         &["wsm", "verify", "--query", "--from", "s", "q"],
-        "Verify { query: true, from: Some(\"s\"), program: \"q\" }",
+        "Verify(VerifyJob { query: true, from: Some(\"s\"), program: \"q\" })",
     ),
     (
         &["wsm", "explain", "p"],
-        "Explain { query: false, program: \"p\" }",
+        "Explain(ExplainJob { query: false, program: \"p\" })",
     ),
     (
         &["wsm", "explain", "q", "--query"],
-        "Explain { query: true, program: \"q\" }",
+        "Explain(ExplainJob { query: true, program: \"q\" })",
     ),
     (
         &["wsm", "rows", "s", "q", "l"],
-        "Rows { program: false, source: \"s\", query: \"q\", rows: Some(\"l\") }",
+        "Rows(RowsJob { program: false, source: \"s\", query: \"q\", rows: Some(\"l\") })",
     ),
     (
         &["wsm", "rows", "s", "--program", "p", "-"],
-        "Rows { program: true, source: \"s\", query: \"p\", rows: None }",
+        "Rows(RowsJob { program: true, source: \"s\", query: \"p\", rows: None })",
     ),
     (
         &["wsm", "keep", "q"],
-        "Keep { program: false, taken: None, most: None, query: \"q\", rows: None }",
+        "Keep(KeepJob { program: false, taken: None, most: None, query: \"q\", rows: None })",
     ),
     (
         &[
@@ -102,7 +102,7 @@ const JOBS: [(&[&str], &str); 20] = [
             "--most=9",
             "r",
         ],
-        "Keep { program: true, taken: Some(\"5\"), most: Some(\"9\"), query: \"p\", rows: Some(\"r\") }",
+        "Keep(KeepJob { program: true, taken: Some(\"5\"), most: Some(\"9\"), query: \"p\", rows: Some(\"r\") })",
     ),
 ];
 

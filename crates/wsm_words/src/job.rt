@@ -1,0 +1,132 @@
+//! The jobs that words ask for.
+
+/// What the words ask for. Files are told by their names.
+#[derive(Debug)]
+pub enum Job {
+    /// To run a query or a program.
+    Run(RunJob),
+    /// To write the program of a query.
+    Compile(CompileJob),
+    /// To write a program in the newest version of the bytes.
+    Migrate(MigrateJob),
+    /// To judge a program, and whether a source fits it.
+    Verify(VerifyJob),
+    /// To list a program, and to judge it.
+    Explain(ExplainJob),
+    /// To deal rows to parts, or to write the keys of a part.
+    Deal(DealJob),
+    /// To write the rows of a log.
+    Rows(RowsJob),
+    /// To cut rows down to those that a run needs to go on.
+    Keep(KeepJob),
+}
+
+// A job is let go in one call, however many parts it has.
+impl Drop for Job {
+    fn drop(self) {
+        match self {
+            Job::Run(_job) => {}
+            Job::Compile(_job) => {}
+            Job::Migrate(_job) => {}
+            Job::Verify(_job) => {}
+            Job::Explain(_job) => {}
+            Job::Deal(_job) => {}
+            Job::Rows(_job) => {}
+            Job::Keep(_job) => {}
+        }
+    }
+}
+
+/// To run a query, or a program, over rows, or over the lines of a log.
+#[derive(Debug, Drop)]
+pub struct RunJob {
+    /// Whether the file has the bytes of a program, and not the text of a query.
+    pub program: bool,
+    /// The file of the source by which the lines of a log are read; none where rows are run over.
+    pub from: Option<String>,
+    /// The file of the query or the program.
+    pub query: String,
+    /// The file of the rows or of the log; standard input where none is named, or `-`.
+    pub rows: Option<String>,
+}
+
+/// To write the program of a query.
+#[derive(Debug, Drop)]
+pub struct CompileJob {
+    /// The file of the query's text.
+    pub query: String,
+    /// The file that is written.
+    pub out: String,
+}
+
+/// To write a program in the newest version of the bytes.
+#[derive(Debug, Drop)]
+pub struct MigrateJob {
+    /// The file of the program.
+    pub program: String,
+    /// The file that is written.
+    pub out: String,
+}
+
+/// To tell whether a program, or that of a query, is accepted, and whether a source fits it.
+#[derive(Debug, Drop)]
+pub struct VerifyJob {
+    /// Whether the file has the text of a query, and not the bytes of a program.
+    pub query: bool,
+    /// The file of the source that is judged too; none where the program alone is judged.
+    pub from: Option<String>,
+    /// The file of the program or the query.
+    pub program: String,
+}
+
+/// To list a program, or that of a query, and to tell whether it is accepted.
+#[derive(Debug, Drop)]
+pub struct ExplainJob {
+    /// Whether the file has the text of a query, and not the bytes of a program.
+    pub query: bool,
+    /// The file of the program or the query.
+    pub program: String,
+}
+
+/// To deal rows to parts by their keys, or to write the keys of a part as a clause.
+#[derive(Debug, Drop)]
+pub struct DealJob {
+    /// Whether the keys of one part are written.
+    pub keys_of: bool,
+    /// The file of the keys.
+    pub keys: String,
+    /// The number of parts.
+    pub parts: String,
+    /// What the names of the parts' files begin with, or the number of the part whose keys are written.
+    pub out: String,
+    /// The file of the rows; standard input where none is named, or `-`.
+    pub rows: Option<String>,
+}
+
+/// To write the rows that a source reads of a log, as a run over it takes them.
+#[derive(Debug, Drop)]
+pub struct RowsJob {
+    /// Whether the file has the bytes of a program, and not the text of a query.
+    pub program: bool,
+    /// The file of the source by which the log's lines are read.
+    pub source: String,
+    /// The file of the query or the program.
+    pub query: String,
+    /// The file of the log; standard input where none is named, or `-`.
+    pub rows: Option<String>,
+}
+
+/// To cut rows down to those that a run needs to go on.
+#[derive(Debug, Drop)]
+pub struct KeepJob {
+    /// Whether the file has the bytes of a program, and not the text of a query.
+    pub program: bool,
+    /// How many lines were taken of what a run over the rows writes; all of them where it isn't said.
+    pub taken: Option<String>,
+    /// How many bytes of the rows are looked at; all of them where it isn't said.
+    pub most: Option<String>,
+    /// The file of the query or the program.
+    pub query: String,
+    /// The file of the rows, which is replaced; standard input where none is named, or `-`.
+    pub rows: Option<String>,
+}
