@@ -16,6 +16,7 @@ those of the same query without the instruction TEST, which that version doesn't
 import re
 import sys
 from collections import Counter
+from functools import cached_property
 from pathlib import Path
 
 sys.dont_write_bytecode = True
@@ -102,10 +103,19 @@ class Stream:
         self.records, self.firings, self.lines = [], [], []
         self.relation = Counter()
         self.admitted = self.late = self.refused = self.turn = 0
-        self.columns = [query.meaning(column) for column in query.columns]
-        self.types = [query.type_of_column(number) for number in range(len(query.columns))]
         self.where = query.where and query.meaning(query.where)
-        self.having = query.having and query.meaning(query.having)
+
+    @cached_property
+    def columns(self):
+        return [self.query.meaning(column) for column in self.query.columns]
+
+    @cached_property
+    def types(self):
+        return [self.query.type_of_column(number) for number in range(len(self.query.columns))]
+
+    @cached_property
+    def having(self):
+        return self.query.having and self.query.meaning(self.query.having)
 
     def mark(self):
         return min(self.marks)

@@ -35,9 +35,10 @@ class History:
     def __post_init__(self):
         self.stream = Stream(self.query)
 
-    def take(self, row):
+    def take(self, event):
+        """The turn of an event, or of a row that is none, which is the word for it."""
         stream = self.stream
-        event, mark = event_of(self.query, row.split(",")), stream.mark()
+        mark = stream.mark()
         why = event if isinstance(event, str) else stream.verdict(event)
         self.words.append(why)
         if isinstance(event, str):
@@ -62,9 +63,13 @@ class History:
 
 
 def history(query, rows):
+    return history_of(query, [event_of(query, row.split(",")) for row in rows])
+
+
+def history_of(query, events):
     found = History(query)
-    for row in rows:
-        found.take(row)
+    for event in events:
+        found.take(event)
     return found
 
 
