@@ -45,6 +45,7 @@ pub mod ColumnEnums
 pub mod TotalPanes
 pub mod FiringSets
 pub mod SameLines
+pub mod AmountColumns
 pub mod Rules
 pub mod AssembledProgram
 pub mod Texts

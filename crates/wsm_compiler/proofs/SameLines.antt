@@ -176,7 +176,7 @@ all_in_range q key [] same fits = refl
 all_in_range q key (d ∷ ds) same fits =
     (λ i. subst (λ k. record_in_range q k d.values ≡ true) same.0 fits.0 i && all_in_range q key ds same.1 fits.1 i)
 
-pane_is : (q : Query) → IsAccepted q → (key : ℕ) (ds : List Datum) → IsFiringSet (query_of (program_of q)) key ds → IsPane q key (map (λ d. d.values) ds)
+pub pane_is : (q : Query) → IsAccepted q → (key : ℕ) (ds : List Datum) → IsFiringSet (query_of (program_of q)) key ds → IsPane q key (map (λ d. d.values) ds)
 pane_is q a key ds h =
     let clock = (passed q a.checked).clock in
     let c1 = and_parts (is_time q.clock.start) (is_span q.clock.skew && (is_span q.clock.lateness && is_size q.clock.records)) clock in

@@ -15,5 +15,6 @@ pub mod Accepted
 pub mod Lawful
 pub mod SameMeaning
 pub mod SameLines
+pub mod Amounts
 pub mod Vectors
 pub mod TestVectors

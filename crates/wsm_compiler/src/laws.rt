@@ -5,6 +5,7 @@ ghost use Rattle.std.specs.Prelude.{ℕ, List};
 ghost use Rattle.wsm_record.specs.declared.event.Value.{Value};
 ghost use Rattle.wsm_query.specs.Tree.{Query, Expr};
 ghost use Rattle.wsm_check.specs.Terms.{Term};
+ghost use Rattle.wsm_compiler.specs.Amounts.{ColumnsAddUp, TextsAddUp};
 ghost use Rattle.wsm_compiler.specs.Accepted.{AcceptedExactly, AcceptedWithoutBudget, FaultlessExactly};
 ghost use Rattle.wsm_compiler.specs.Folded.{FireMeans, FoldsHold, MeansTheSame};
 ghost use Rattle.wsm_compiler.specs.Labelled.{LabelsAreRanges};
@@ -86,4 +87,12 @@ pub fn stands_for_meant()
 pub fn same_lines()
     ensures query { (q : Query) → SameLines q }
     ensures text { (text : List ℕ) (q : Query) → TextMeans text q }
+{}
+
+/// Without HAVING a column that is COUNT(*) or a SUM has over each firing what the records that it is computed over come to
+/// together: one for each, or what the sum is taken of. So the laws of amounts and of the invoice hold of each text whose panes
+/// discard, for these columns.
+pub fn columns_add_up()
+    ensures columns { (q : Query) → ColumnsAddUp q }
+    ensures text { (text : List ℕ) (q : Query) → TextsAddUp text q }
 {}
