@@ -3,3 +3,6 @@ pub mod FaultLemmas
 pub mod KeptLemmas
 pub mod FirstLemmas
 pub mod IdentifierLemmas
+pub mod SiftedLemmas
+pub mod PassingLemmas
+pub mod FilterLemmas

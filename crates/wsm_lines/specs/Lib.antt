@@ -8,6 +8,7 @@ pub mod Identifier
 pub mod Event
 pub mod InPlace
 pub mod Said
+pub mod Members
 pub mod Reading
 pub mod Reader
 pub mod JsonRows

@@ -34,6 +34,8 @@ mod heading;
 mod identifier;
 mod laws;
 mod line;
+mod members;
+mod name_filter;
 mod reader;
 mod reading;
 mod room;

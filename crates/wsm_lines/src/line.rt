@@ -2,6 +2,7 @@
 ghost use Rattle.std.specs.Prelude.{◌≡◌, ◌≢◌, IfErr, OnOk, Err};
 ghost use Rattle.wsm_lines.specs.Fault.{IfFault, on_ok};
 ghost use Rattle.wsm_lines.specs.Heading.{headed_in};
+ghost use Rattle.wsm_lines.specs.Members.{PassesSource};
 ghost use Rattle.wsm_lines.specs.Reading.{HoldsEvent, HoldsIdentifier, TellsFault};
 ghost use Rattle.wsm_lines.specs.Said.{taken_access, taken_json, taken_under};
 ghost use Rattle.wsm_lines.specs.Seen.{heading_seen};
@@ -9,6 +10,8 @@ ghost use Rattle.wsm_lines.specs.Text.{text_in};
 
 use crate::fault::{LineFault, LineRefusal};
 use crate::heading::{Heading, begin};
+use crate::members::sift;
+use crate::name_filter::NameFilter;
 use crate::reading::{Reading, read_taken};
 use crate::room::Room;
 use crate::rows::read_csv;
@@ -16,7 +19,7 @@ use crate::scalar::Taken;
 use crate::source::{Format, Source};
 use crate::tagged::read_tagged_row;
 use crate::text::text_in;
-use json::{Error, Scratch, Value};
+use json::{Error, Scratch};
 use std::alloc::Global;
 use wsm_parts::access_of;
 use wsm_record::Schema;
@@ -25,18 +28,20 @@ use wsm_record::Schema;
 fn read_json(
     alloc: Global,
     source: &Source,
+    filter: &NameFilter,
     schema: &Schema,
     first: bool,
     line: &[u8],
     scratch: &mut Scratch,
     reading: &mut Reading,
 ) -> Result<(), LineRefusal>
+    requires { PassesSource filter.now.buckets source.now }
     ensures event { OnOk result (HoldsEvent source.now schema.now (on_ok (text_in first source.now.longest line.now) taken_json) reading.new) }
     ensures identifier { OnOk result (HoldsIdentifier source.now (on_ok (text_in first source.now.longest line.now) taken_json) reading.new) }
     ensures fault { IfErr result (λ r. IfFault r (TellsFault source.now schema.now (on_ok (text_in first source.now.longest line.now) taken_json))) }
 {
     let text = text_in(first, source.longest, line)?;
-    match Value::parse(alloc, text, scratch) {
+    match sift(alloc, filter, text, scratch) {
         Ok(value) => read_taken(alloc, source, schema, &Taken::Json(value), reading),
         Err(Error::Invalid) => Err(LineRefusal::Fault(LineFault::NotJson)),
         Err(_) => Err(LineRefusal::Memory),
@@ -67,12 +72,14 @@ fn read_access(
 pub(crate) fn read_line(
     alloc: Global,
     source: &Source,
+    filter: &NameFilter,
     schema: &Schema,
     line: &[u8],
     heading: &mut Heading,
     room: &mut Room,
     reading: &mut Reading,
 ) -> Result<(), LineRefusal>
+    requires { PassesSource filter.now.buckets source.now }
     ensures event { OnOk result (HoldsEvent source.now schema.now (taken_under source.now (heading_seen heading.old) line.now) reading.new) }
     ensures identifier { OnOk result (HoldsIdentifier source.now (taken_under source.now (heading_seen heading.old) line.now) reading.new) }
     ensures fault { IfErr result (λ r. IfFault r (TellsFault source.now schema.now (taken_under source.now (heading_seen heading.old) line.now))) }
@@ -84,6 +91,7 @@ pub(crate) fn read_line(
             read_json(
                 alloc,
                 source,
+                filter,
                 schema,
                 first,
                 line,

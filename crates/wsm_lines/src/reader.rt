@@ -1,7 +1,10 @@
 //! Lines read as events with their identifiers, each in place of the last.
+ghost use Rattle.wsm_lines.specs.Members.{PassesSource};
+
 use crate::fault::LineRefusal;
 use crate::heading::Heading;
 use crate::line::read_line;
+use crate::name_filter::NameFilter;
 use crate::reading::Reading;
 use crate::room::Room;
 use crate::source::Source;
@@ -15,10 +18,13 @@ use wsm_record::{Event, Schema};
 pub struct LineReader {
     alloc: Global,
     source: Source,
+    // Passes the members that the source asks for.
+    filter: NameFilter,
     reading: Reading,
     // What stands above the rows, of CSV, and whether a line was read.
     heading: Heading,
     room: Room,
+    ghost passes: { PassesSource filter.buckets source },
 }
 
 impl LineReader {
@@ -33,9 +39,11 @@ impl LineReader {
     pub fn new(alloc: Global, source: Source) -> LineReader
         ensures { Follows source [] result }
     {
+        let filter = NameFilter::of(&source);
         LineReader {
             alloc,
             source,
+            filter,
             reading: Reading {
                 event: Event::Record {
                     key: None,
@@ -60,6 +68,7 @@ impl LineReader {
         read_line(
             self.alloc,
             &self.source,
+            &self.filter,
             schema,
             bare(line),
             &mut self.heading,

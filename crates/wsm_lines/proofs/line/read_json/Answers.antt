@@ -1,0 +1,23 @@
+use Rattle.std.proofs.Common.{sym}
+use Rattle.json.specs.Value.{value_view}
+use Rattle.wsm_lines.proofs.FaultLemmas.{events_as, faults_as}
+use Rattle.wsm_lines.proofs.SiftedLemmas.{event_by-sifted, identifier_by-sifted}
+use Rattle.wsm_lines.proofs.line.read_json.Goals as goal
+
+pub returns-in-Ok-clause-event : goal.returns-in-Ok-clause-event
+returns-in-Ok-clause-event c =
+    let v = value_view c.in-Ok.value in
+    let same = event_by-sifted c.args.filter.now.buckets c.args.source.now c.requires c.args.schema.now _ c.in_ok-text.text.now v (sym c.in_ok-text.ensures) c.in-Ok.ensures.ok in
+    events_as c.read_taken.result _ _ _ same c.read_taken.ensures.event
+
+pub returns-in-Ok-clause-identifier : goal.returns-in-Ok-clause-identifier
+returns-in-Ok-clause-identifier c =
+    let v = value_view c.in-Ok.value in
+    let same = identifier_by-sifted c.args.filter.now.buckets c.args.source.now c.requires _ c.in_ok-text.text.now v (sym c.in_ok-text.ensures) c.in-Ok.ensures.ok in
+    events_as c.read_taken.result _ _ _ same c.read_taken.ensures.identifier
+
+pub returns-in-Ok-clause-fault : goal.returns-in-Ok-clause-fault
+returns-in-Ok-clause-fault c =
+    let v = value_view c.in-Ok.value in
+    let same = event_by-sifted c.args.filter.now.buckets c.args.source.now c.requires c.args.schema.now _ c.in_ok-text.text.now v (sym c.in_ok-text.ensures) c.in-Ok.ensures.ok in
+    faults_as c.read_taken.result _ _ same c.read_taken.ensures.fault
