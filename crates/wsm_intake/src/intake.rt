@@ -8,7 +8,6 @@ ghost use Rattle.wsm_turns.specs.Turns.{Kept, watermark};
 ghost use Rattle.wsm_intake.specs.Tells.{Serves};
 ghost use Rattle.wsm_intake.specs.Turns.{setting_by};
 
-use crate::listener::{Listener, is_told};
 use crate::told::{Told, add_fault};
 use crate::totals::{LogCounts, LogTotals};
 use std::alloc::{AllocError, Global};
@@ -17,8 +16,8 @@ use wsm_engine::Totals;
 use wsm_lines::{LineFault, LineReader, LineRefusal, Source};
 use wsm_rules::Verified;
 use wsm_turns::{
-    Clocks, Identifiers, Stamp, Taker, Waiting, clocks_heard, open_clocks, stamp_of, take_record,
-    take_rest,
+    Clocks, Identifiers, Listener, Stamp, Taker, Waiting, clocks_heard, open_clocks, stamp_of,
+    take_record, take_rest, tell_heard,
 };
 
 /// An engine and what stands between it and a log: the reader of lines by a source, its clocks with the records that wait, and the
@@ -178,11 +177,7 @@ impl Intake {
 
     /// Tells a listener what the clocks have come to, where there are any and it is told after as many lines.
     pub fn tell<L: Listener>(&self, listener: &mut L) {
-        if is_told(self.taken) {
-            if let Some(heard) = clocks_heard(&self.waiting) {
-                listener.hear(self.taken, heard);
-            }
-        }
+        tell_heard(&self.waiting, self.taken, listener);
     }
 
     /// Gives a device the bytes. Where it can't, it took a beginning of them and has failed.

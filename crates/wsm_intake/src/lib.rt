@@ -1,13 +1,12 @@
 //! From the lines of a log to what a query writes: one function of lines, in their order.
 #![tactic(auto)]
 
-pub use listener::Listener;
 pub use run::run_log;
 pub use totals::{LogCounts, LogTotals};
 pub use wsm_log_rows::LogEnd;
+pub use wsm_turns::Listener;
 
 mod intake;
-mod listener;
 mod run;
 mod told;
 mod totals;

@@ -12,7 +12,6 @@ ghost use Rattle.wsm_intake.specs.Run.{Completes, EndsEarly, LogBroken, LogCount
 ghost use Rattle.wsm_intake.specs.Turns.{Fits};
 
 use crate::intake::Intake;
-use crate::listener::Listener;
 use crate::totals::LogTotals;
 use std::alloc::Global;
 use std::io::Read;
@@ -21,7 +20,7 @@ use wsm_lines::Source;
 use wsm_log::Lines;
 use wsm_log_rows::LogEnd;
 use wsm_rules::Verified;
-use wsm_turns::Clocks;
+use wsm_turns::{Clocks, Listener};
 
 /// Runs a program over the lines of a log, by a source that says how a line is read, and with the watermarks of clocks,
 /// where there are any. Each line is read and its turn taken, and the device is given the bytes of the turn before the next line is

@@ -21,7 +21,7 @@ few_passing : (w : Setting) (k : Kept) (number : ℕ) (stamp : Stamp) (x : Spoke
 few_passing w k number stamp x true n h = omega (arith, h)
 few_passing w k number stamp x false n h = let g : suc (length k.stamps) ≤ suc n = omega (arith, h) in g
 
-few_by : (w : Setting) (k : Kept) (number : ℕ) (o : Option Stamp) (x : Spoken) (n : ℕ) → length k.stamps ≤ n → length (turn_by w k number o x).kept.stamps ≤ suc n
+pub few_by : (w : Setting) (k : Kept) (number : ℕ) (o : Option Stamp) (x : Spoken) (n : ℕ) → length k.stamps ≤ n → length (turn_by w k number o x).kept.stamps ≤ suc n
 few_by w k number None x n h = omega (arith, h)
 few_by w k number (Some stamp) x n h = few_passing w k number stamp x (is_double x.identifier k.memory) n h
 

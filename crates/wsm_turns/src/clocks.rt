@@ -2,9 +2,11 @@
 
 ghost use Rattle.std.specs.Prelude.{◌≡◌, ◌+◌, ◌≤◌, IfSome, pos, unsigned_abs};
 ghost use Rattle.wsm_record.specs.Event.{event_of};
+ghost use Rattle.wsm_admission.specs.Clock.{fits_declared};
 ghost use Rattle.wsm_turns.specs.Clocks.{IsClocks, IsRule};
 ghost use Rattle.wsm_turns.specs.Turns.{mark_at, stamp_of};
 
+use wsm_admission::has_fitting_values;
 use wsm_record::limits::LATEST_TIME;
 use wsm_record::{Event, Schema};
 use wsm_watermarks::{MOST_AGREEING, MOST_HELD, Rule, Stamp};
@@ -73,13 +75,21 @@ pub fn clocks_of(
 pub fn stamp_of(schema: &Schema, event: &Event) -> Option<Stamp>
     ensures { result ≡ stamp_of schema.now (event_of event.now) }
 {
+    stamp_judged(schema, event, has_fitting_values(schema, event))
+}
+
+/// The same, where whoever has read the event knows whether its values fit the schema: then no value is looked at.
+pub fn stamp_judged(schema: &Schema, event: &Event, values_fit: bool) -> Option<Stamp>
+    requires { values_fit ≡ fits_declared schema.now (event_of event.now) }
+    ensures { result ≡ stamp_of schema.now (event_of event.now) }
+{
     match event {
         Event::Record {
             key: Some(key),
             time,
-            values,
+            ..
         } => {
-            if (*key as usize) < schema.key_count() && (schema.fits(values) && is_time(*time)) {
+            if (*key as usize) < schema.key_count() && (values_fit && is_time(*time)) {
                 Some(Stamp {
                     clock: *key as usize,
                     time: time.unsigned_abs(),

@@ -5,10 +5,11 @@
 //! watermark where it has risen, and each record once.
 #![tactic(auto)]
 
-pub use clocks::{Clocks, clocks_of, mark_at, rule_of, stamp_of};
+pub use clocks::{Clocks, clocks_of, mark_at, rule_of, stamp_judged, stamp_of};
 pub use heard::Heard;
 pub use identifiers::Identifiers;
 pub use line_event::LineEvent;
+pub use listener::{Listener, tell_heard};
 pub use taker::Taker;
 pub use waiting::{Waiting, clocks_heard, open_clocks, take_mark, take_record, take_rest};
 pub use wsm_watermarks::{Rule, Stamp};
@@ -17,6 +18,7 @@ mod clocks;
 mod heard;
 mod identifiers;
 mod line_event;
+mod listener;
 mod passing;
 mod taker;
 mod waiting;
