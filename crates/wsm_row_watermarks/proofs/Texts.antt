@@ -5,7 +5,7 @@ use Rattle.wsm_csv.specs.Device.{TakesPart}
 use Rattle.wsm_csv.proofs.Written.{Appends-join, Appends-start, TakesPart-last}
 use Rattle.wsm_log_rows.proofs.Reading.{newest_first}
 use Rattle.wsm_turns.specs.Turns.{Setting}
-use Rattle.wsm_row_watermarks.specs.declared.counts.Counts.{Counts}
+use Rattle.wsm_row_watermarks.specs.declared.counts.Totals.{Totals}
 use Rattle.wsm_row_watermarks.specs.declared.turns.RowTurns.{RowTurns}
 use Rattle.wsm_row_watermarks.specs.Fits.{Ends, Fits, Turned, read_by}
 use Rattle.wsm_row_watermarks.specs.Run.{Stands, read as lines_read}
@@ -34,6 +34,6 @@ module _ (w : Setting) (once : Option ℕ) (read : List (List ℕ)) (line : List
       subst (TakesPart old new) next_text (TakesPart-last old now new (rows_text w (lines_read w once read)) t'.handed.text.items stands.text part)
 
 -- the rows with those at the end
-pub last_text : (w : Setting) (once : Option ℕ) (last : Bool) (read : List (List ℕ)) (t : RowTurns) (counts : Counts) → Ends w once last t (reverse read) counts
+pub last_text : (w : Setting) (once : Option ℕ) (last : Bool) (read : List (List ℕ)) (t : RowTurns) (totals : Totals) → Ends w once last t (reverse read) totals
     → rows_text w (lines_read w once read) ++ t.handed.text.items ≡ text w last (lines_read w once read)
-last_text w once last read t counts ends = ap (λ (l : List ℕ). rows_text w (lines_read w once read) ++ l) ends.text
+last_text w once last read t totals ends = ap (λ (l : List ℕ). rows_text w (lines_read w once read) ++ l) ends.text

@@ -1,14 +1,15 @@
 -- What is kept of rows, and how it fits the lines so far.
 use Rattle.std.specs.Prelude.{◌≡◌, ◌++◌, ◌+◌, ◌<◌, ℕ, Bool, List, ◌∷◌, length, Option}
 use Rattle.wsm_admission.specs.Admission.{counter}
-use Rattle.wsm_csv.specs.EventReader.{event_read}
+use Rattle.wsm_admission.specs.Clock.{fits_declared}
+use Rattle.wsm_csv.specs.EventReader.{event_read, fits_read}
 use Rattle.wsm_turns.specs.Known.{Remembers}
 use Rattle.wsm_turns.specs.Turns.{Setting, Spoken, watermark}
 use Rattle.wsm_turns.specs.Waits.{Hear}
 use Rattle.wsm_row_watermarks.specs.Handed.{Serves}
 use Rattle.wsm_row_watermarks.specs.Lines.{Line, is_first, line_of, lines_read, some_text, text_of}
-use Rattle.wsm_row_watermarks.specs.Turns.{RowTurn, State, counts_of, one_if, rest_text, row_turn, state_of}
-use Rattle.wsm_row_watermarks.specs.declared.counts.Counts.{Counts}
+use Rattle.wsm_row_watermarks.specs.Turns.{RowTurn, State, counts_of, one_if, rest_text, row_turn, state_of, totals_of}
+use Rattle.wsm_row_watermarks.specs.declared.counts.Totals.{Totals}
 use Rattle.wsm_row_watermarks.specs.declared.turns.RowTurns.{RowTurns}
 
 -- what is kept, by a query's setting
@@ -41,6 +42,10 @@ pub record Begins (w : Setting) (t : RowTurns) (s : State) (text : List ℕ) : T
 abbrev pub spoken_read : RowTurns → Spoken
 spoken_read t = record { event = event_read t.events; identifier = some_text t.row.identifier.items }
 
+-- whether its values fit is known
+abbrev pub IsJudged : RowTurns → Type 0
+IsJudged t = fits_read t.events ≡ fits_declared t.handed.schema (event_read t.events)
+
 -- the lines, with those before them, the newest first
 abbrev pub read_by : Setting → Option ℕ → List (List ℕ) → List Line
 read_by w once before = lines_read w.declared once before
@@ -60,6 +65,6 @@ pub record Turned (w : Setting) (once : Option ℕ) (new : RowTurns) (before : L
   pub text : new.handed.text.items ≡ (row_turn w (state_of w (read_by w once before)) (length (read_by w once before) + 1) (line_by w once before line)).text
 
 -- at the end, with the rows that waited
-pub record Ends (w : Setting) (once : Option ℕ) (last : Bool) (new : RowTurns) (lines : List (List ℕ)) (told : Counts) : Type 0 where
+pub record Ends (w : Setting) (once : Option ℕ) (last : Bool) (new : RowTurns) (lines : List (List ℕ)) (told : Totals) : Type 0 where
   pub text : new.handed.text.items ≡ rest_text w last (read_by w once lines)
-  pub counts : told ≡ counts_of w (read_by w once lines)
+  pub totals : told ≡ totals_of w (read_by w once lines)

@@ -1,9 +1,8 @@
 -- What was handed on of events, and the text of that.
-use Rattle.std.specs.Prelude.{◌≡◌, ℕ, ◌++◌, List, [], ◌∷◌, refl}
+use Rattle.std.specs.Prelude.{◌≡◌, ℕ, ℤ, ◌++◌, List, [], ◌∷◌, refl}
 use Rattle.std.proofs.Common.{◌∙◌, sym, ap, subst, append_assoc, append-nil}
 use Rattle.wsm_record.specs.Event.{Event}
 use Rattle.wsm_record.specs.Schema.{Declared}
-use Rattle.wsm_admission.specs.declared.clock.Clock.{Clock}
 use Rattle.wsm_admission.specs.Admission as admission
 use Rattle.wsm_admission.specs.Admission.{State}
 use Rattle.wsm_admission.specs.Clock.{source_mark}
@@ -12,22 +11,17 @@ use Rattle.wsm_turns.specs.Turns.{Setting, fed_with}
 use Rattle.wsm_row_watermarks.specs.declared.handed.Handed.{Handed}
 use Rattle.wsm_row_watermarks.specs.Turns.{event_text, events_text}
 
--- sources have the same watermarks after two histories
-abbrev pub AreAlike : Clock → List Event → List Event → Type 0
-AreAlike c xs ys = (s : ℕ) → source_mark c s xs ≡ source_mark c s ys
-
--- the watermarks of a query's sources after a history are kept: those of a history that has as many as it
-pub record Marks (w : Setting) (a : State) (past : List Event) : Type 0 where
+-- what is kept of a history is its watermarks, and how many records were late
+pub record Marks (w : Setting) (a : State) (latest : ℤ) (past : List Event) : Type 0 where
   pub clock : a.clock ≡ w.clock
-  pub heard : List Event
-  pub fits : admission.Fits w.shape w.declared a heard
-  pub alike : AreAlike w.clock heard past
+  pub fits : admission.Fits w.shape w.declared a past
+  pub first : latest ≡ source_mark w.clock 0 past
 
 -- by a query's setting, after a history of events
 pub record Serves (w : Setting) (t : Handed) (past : List Event) : Type 0 where
   pub declared : t.schema ≡ w.declared
   pub shape : t.shape ≡ w.shape
-  pub marks : Marks w t.admission past
+  pub marks : Marks w t.admission t.first past
 
 -- nothing has changed but what is kept of watermarks
 pub record HearsOnly (old new : Handed) : Type 0 where

@@ -41,3 +41,10 @@ too_short = refl
 
 no_record : taken_of (Some 3) (codes "w,a,5,x") ≡ whole (codes "w,a,5,x")
 no_record = refl
+
+-- no identifier stands in the place of the tag, of the key or of the time
+tag : taken_of (Some 0) (codes "r,a,5") ≡ whole (codes "r,a,5")
+tag = refl
+
+time : taken_of (Some 2) (codes "r,a,5,7") ≡ whole (codes "r,a,5,7")
+time = refl

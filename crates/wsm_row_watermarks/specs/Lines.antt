@@ -7,6 +7,7 @@ use Rattle.wsm_record.specs.Schema.{Declared}
 use Rattle.wsm_csv.specs.Cells.{event_of_cells, record_tag}
 use Rattle.wsm_turns.specs.Turns as turns
 use Rattle.wsm_turns.specs.Turns.{spoken}
+use Rattle.wsm_row_watermarks.specs.declared.row.TheConstants.{FIRST_PLACE}
 use Rattle.wsm_row_watermarks.specs.declared.text.TheConstants.{LONGEST}
 
 -- ---- the text of a line
@@ -84,9 +85,9 @@ some_text (b ∷ bs) = Some (b ∷ bs)
 abbrev pub taken_out : ℕ → List (List ℕ) → Taken
 taken_out place cs = let rest = without place cs in record { text = joined rest; cells = rest; identifier = some_text (slice_index_or cs place []) }
 
--- a record with a cell at a place
+-- a record with a cell at a place behind its time
 abbrev pub has_cell : ℕ → List (List ℕ) → Bool
-has_cell place cs = nat_lt place (length cs) && bytes_eq (slice_index_or cs 0 []) record_tag
+has_cell place cs = nat_le FIRST_PLACE place && (nat_lt place (length cs) && bytes_eq (slice_index_or cs 0 []) record_tag)
 
 abbrev pub taken_if : Bool → ℕ → List ℕ → Taken
 taken_if there place text = if there then taken_out place (cells_of text) else whole text

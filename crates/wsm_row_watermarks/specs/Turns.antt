@@ -1,19 +1,21 @@
 -- What lines of rows come to, one behind the other: the watermarks of clocks among them, records that wait, and doubles, by
 -- wsm_turns/specs/Turns.antt. Lines come the newest first.
-use Rattle.std.specs.Prelude.{◌==◌, ◌&&◌, ◌+◌, ◌++◌, ℕ, Bool, false, List, [], ◌∷◌, length, map, ℤ, Option, Some, None, option_map, Ok, Err, codes, if◌then◌else◌, unsigned_abs, nat_lt, is_err, is_some}
+use Rattle.std.specs.Prelude.{◌==◌, ◌&&◌, ◌+◌, ◌++◌, ℕ, Bool, false, List, [], ◌∷◌, length, map, ℤ, Option, Some, None, option_map, Ok, Err, codes, if◌then◌else◌, unsigned_abs, int_lt, nat_lt, is_err, is_some}
 use Rattle.std.specs.Fmt.{signed_decimal}
 use Rattle.wsm_record.specs.declared.limits.TheConstants.{LATEST_TIME}
 use Rattle.wsm_record.specs.Event.{Event, Record, Watermark}
 use Rattle.wsm_record.specs.Schema.{Declared}
 use Rattle.wsm_windows.specs.Limits.{is_time}
 use Rattle.wsm_admission.specs.Admission.{counter}
-use Rattle.wsm_admission.specs.Clock.{is_source}
+use Rattle.wsm_admission.specs.Clock.{is_source, late_count, source_mark}
 use Rattle.wsm_log_rows.specs.Rows.{event_row}
 use Rattle.wsm_turns.specs.declared.clocks.Clocks.{Clocks}
 use Rattle.wsm_turns.specs.Numbered.{Numbered}
+use Rattle.wsm_turns.specs.Heard.{heard}
 use Rattle.wsm_turns.specs.Noted.{noted_by, raised}
-use Rattle.wsm_turns.specs.Turns.{Kept, Setting, Spoken, Turn, at_end, going, is_double, numbered, start_of, stamp_of, turn_by}
+use Rattle.wsm_turns.specs.Turns.{Kept, Setting, Spoken, Turn, at_end, fed_with, going, is_double, numbered, start_of, stamp_of, turn_by}
 use Rattle.wsm_row_watermarks.specs.declared.counts.Counts.{Counts}
+use Rattle.wsm_row_watermarks.specs.declared.counts.Totals.{Totals}
 use Rattle.wsm_row_watermarks.specs.Lines.{Line, Said}
 
 -- ---- texts
@@ -113,13 +115,17 @@ abbrev pub rows_text : Setting → List Line → List ℕ
 rows_text w [] = []
 rows_text w (line ∷ before) = rows_text w before ++ (row_turn w (state_of w before) (length before + 1) line).text
 
--- the last watermark that there is, by which all windows are complete, where it is asked for
-abbrev pub last_row : Declared → Bool → List ℕ
-last_row d last = if last then mark_row d LATEST_TIME else []
+-- what went on of lines and at their end, the newest first
+abbrev pub gone : Setting → List Line → List Event
+gone w lines = let k = (state_of w lines).kept in fed_with k.fed (at_end k)
+
+-- the last watermark that there is, by which all windows are complete, where it is asked for and the first source hasn't come to it
+abbrev pub last_row : Declared → Bool → ℤ → List ℕ
+last_row d last first = if last && int_lt first LATEST_TIME then mark_row d LATEST_TIME else []
 
 -- those that are written at the end, where what waits goes on: no line is taken
 abbrev pub rest_text : Setting → Bool → List Line → List ℕ
-rest_text w last lines = events_text w.declared 0 [] (at_end (state_of w lines).kept) ++ last_row w.declared last
+rest_text w last lines = events_text w.declared 0 [] (at_end (state_of w lines).kept) ++ last_row w.declared last (source_mark w.clock 0 (gone w lines))
 
 abbrev pub text : Setting → Bool → List Line → List ℕ
 text w last lines = rows_text w lines ++ rest_text w last lines
@@ -149,3 +155,11 @@ double_count w (line ∷ before) = double_count w before + one_if (is_left_out w
 -- what lines came to, as far as 64 bits count
 abbrev pub counts_of : Setting → List Line → Counts
 counts_of w lines = record { lines = length lines; unread = counter (unread_count lines); doubles = counter (double_count w lines) }
+
+-- what rows came to: how many records were late when they went on is by the query's own clock, as a run over what is written tells it
+abbrev pub totals_of : Setting → List Line → Totals
+totals_of w lines = let s = state_of w lines in record {
+  counts = counts_of w lines;
+  late = counter (late_count w.clock w.shape w.declared (gone w lines));
+  heard = heard s.clocks s.kept;
+}

@@ -1,4 +1,6 @@
-//! What lines came to.
+//! What rows come to.
+
+use wsm_turns::Heard;
 
 /// What lines came to, each number at most the greatest `u64`.
 #[derive(Clone, Copy, Debug, PartialEq, Eq)]
@@ -9,4 +11,15 @@ pub struct Counts {
     pub unread: u64,
     /// How many records were left out, since one with their identifier came before.
     pub doubles: u64,
+}
+
+/// What rows came to: their lines, and what is counted of what went on.
+#[derive(Clone, Copy)]
+pub struct Totals {
+    /// What the lines came to.
+    pub counts: Counts,
+    /// How many records were late by the query's clock when they went on, at most the greatest `u64`.
+    pub late: u64,
+    /// What the clocks came to behind the last line, where there are any. What waited then went on.
+    pub heard: Option<Heard>,
 }

@@ -1,6 +1,11 @@
 //! What goes on, as rows.
 
-ghost use Rattle.wsm_admission.specs.Clock.{IsTimely};
+ghost use Rattle.std.specs.Prelude.{◌≡◌, ◌&&◌, ◌∷◌, if◌then◌else◌, List};
+ghost use Rattle.std.specs.Int.{int_max};
+ghost use Rattle.wsm_record.specs.Event.{Event as AnyEvent, event_of};
+ghost use Rattle.wsm_windows.specs.Limits.{is_time as lies_in_time};
+ghost use Rattle.wsm_admission.specs.Clock.{IsTimely, is_source, source_mark};
+ghost use Rattle.wsm_admission.specs.declared.clock.Clock.{Clock as AnyClock};
 
 use crate::times::Times;
 use itoa::Buffer;
@@ -10,7 +15,7 @@ use wsm_log_rows::add_event;
 use wsm_record::limits::LATEST_TIME;
 use wsm_record::{Event, Schema};
 use wsm_turns::Taker;
-use wsm_windows::Shape;
+use wsm_windows::{Shape, is_time};
 
 /// What takes the events that go on: the rows of those at the last line, and the watermarks of a query's sources.
 #[derive(Drop)]
@@ -18,6 +23,8 @@ pub struct Handed {
     pub(crate) schema: Schema,
     shape: Shape,
     admission: Admission,
+    // The watermark of the first source.
+    first: i64,
     /// The number of the line.
     pub(crate) number: u64,
     /// The text of the line.
@@ -30,6 +37,8 @@ pub struct Handed {
 impl Handed {
     ghost use Rattle.std.specs.Prelude.{◌≡◌, ◌++◌, ◌==◌, ◌∷◌, [], ℕ, List, OnOk, length};
     ghost use Rattle.wsm_record.specs.Event.{Event as AnyEvent, event_of};
+    ghost use Rattle.wsm_admission.specs.Admission.{counter};
+    ghost use Rattle.wsm_admission.specs.Clock.{late_count};
     ghost use Rattle.wsm_turns.specs.Turns.{Setting, watermark};
     ghost use Rattle.wsm_row_watermarks.specs.Turns.{event_text, last_row, mark_row, record_text, source_text, with_feed};
     ghost use Rattle.wsm_row_watermarks.specs.Handed.{HearsOnly, Serves};
@@ -43,6 +52,7 @@ impl Handed {
             admission: Admission::new(times.clock, &schema),
             schema,
             shape: times.shape,
+            first: times.clock.start,
             number: 0,
             line: Vec::new(alloc),
             text: Vec::new(alloc),
@@ -82,6 +92,13 @@ impl Handed {
         self.admission.mark()
     }
 
+    /// How many records were late, at most the greatest `u64`.
+    pub fn late(&self) -> u64
+        ensures { (w : Setting) (past : List AnyEvent) → Serves w self.now past → result ≡ counter (late_count w.clock w.shape w.declared past) }
+    {
+        self.admission.late()
+    }
+
     /// The line goes on.
     pub fn add_line(&mut self) -> Result<(), AllocError>
         ensures text { OnOk result (self.new.text.items ≡ self.old.text.items ++ with_feed self.old.line.items) }
@@ -103,18 +120,14 @@ impl Handed {
         self.add_line()
     }
 
-    // Takes note of an event, by which the watermark may rise.
+    // Takes note of an event, by which the watermark may rise, or which may be late.
     fn hear(&mut self, event: &Event)
         ensures serves { (w : Setting) (past : List AnyEvent) → Serves w self.old past → Serves w self.new (event_of event.now ∷ past) }
         ensures others { HearsOnly self.old self.new }
     {
-        match event {
-            Event::Record { .. } => {}
-            Event::Watermark { .. } => {
-                // What it does is asked for later.
-                let _ = self.admission.decide(&self.schema, &self.shape, event);
-            }
-        }
+        self.first = first_behind(self.first, event);
+        // What it does is asked for later.
+        let _ = self.admission.decide(&self.schema, &self.shape, event);
     }
 
     // Adds the row of a record: the line, where it is the line's own.
@@ -141,12 +154,12 @@ impl Handed {
         Ok(self.text.push(b'\n')?)
     }
 
-    /// Adds the row of the last watermark that there is, where it is asked for.
+    /// Adds the row of the last watermark that there is, where it is asked for and hasn't come.
     pub fn add_last(&mut self, last: bool) -> Result<(), AllocError>
-        ensures text { OnOk result (self.new.text.items ≡ self.old.text.items ++ last_row self.old.schema last) }
+        ensures text { OnOk result (self.new.text.items ≡ self.old.text.items ++ last_row self.old.schema last self.old.first) }
         ensures others { self.new ≡ record self.old { text = self.new.text } }
     {
-        if last {
+        if last && self.first < LATEST_TIME {
             self.add_mark(LATEST_TIME)
         } else {
             Ok(())
@@ -191,5 +204,26 @@ impl Taker for Handed {
     fn take(&mut self, number: u64, event: &Event) -> Result<(), AllocError> {
         self.hear(event);
         self.add_event(number, event)
+    }
+}
+
+// The watermark of the first source behind an event.
+fn first_behind(first: i64, event: &Event) -> i64
+    ensures { (c : AnyClock) (past : List AnyEvent) → first ≡ source_mark c 0 past → result ≡ source_mark c 0 (event_of event.now ∷ past) }
+{
+    match event {
+        Event::Record { .. } => first,
+        Event::Watermark { source, time } => first_with(first, *source, *time),
+    }
+}
+
+// The same behind a watermark of a source.
+fn first_with(first: i64, source: Option<u16>, time: i64) -> i64
+    ensures { result ≡ (if is_source 0 source && lies_in_time time then int_max first time else first) }
+{
+    if source == Some(0) && is_time(time) {
+        first.max(time)
+    } else {
+        first
     }
 }

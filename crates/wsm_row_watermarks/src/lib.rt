@@ -5,12 +5,14 @@
 //! the lines of a log.
 #![tactic(auto)]
 
-pub use counts::Counts;
+pub use counts::{Counts, Totals};
+pub use row::FIRST_PLACE;
 pub use times::Times;
 pub use write::{Rules, write_watermarks};
 
 mod counts;
 mod handed;
+mod pieces;
 mod row;
 mod text;
 mod times;

@@ -8,6 +8,9 @@ use csv::ByteRecord;
 use memchr::memchr;
 use std::alloc::{AllocError, Global};
 
+/// The first place of a record that may have its identifier: behind its tag, its key and its time.
+pub const FIRST_PLACE: usize = 3;
+
 /// The cells of a line, and the identifier of its record. The identifier stands in a cell of its own, which doesn't go on.
 #[derive(Drop)]
 pub struct Row {
@@ -118,11 +121,11 @@ fn cell_at(cells: &ByteRecord, place: usize) -> &[u8]
     cells.get(place).unwrap()
 }
 
-// Whether a row is a record with a cell at a place.
+// Whether a row is a record with a cell at a place behind its time.
 fn has_cell(cells: &ByteRecord, place: usize) -> bool
     ensures { result ≡ has_cell place (fields_of cells.now) }
 {
-    place < cells.len() && cell_at(cells, 0) == b"r".as_slice()
+    FIRST_PLACE <= place && (place < cells.len() && cell_at(cells, 0) == b"r".as_slice())
 }
 
 // Reads the cells of a row but one.

@@ -8,17 +8,18 @@ ghost use Rattle.wsm_turns.specs.Turns.{Setting, watermark};
 ghost use Rattle.wsm_row_watermarks.specs.Handed.{Serves};
 ghost use Rattle.wsm_row_watermarks.specs.Turns.{told_at};
 
-use crate::counts::Counts;
+use crate::counts::{Counts, Totals};
 use crate::handed::Handed;
+use crate::pieces::write_lines;
 use crate::row::Row;
 use crate::text::text_of;
 use crate::times::Times;
 use std::alloc::{AllocError, Global};
-use wsm_csv::{Device, DeviceFault, EventReader, RowRefusal, write_out};
+use wsm_csv::{Device, DeviceFault, EventReader, RowRefusal};
 use wsm_record::{Event, Schema};
 use wsm_turns::{
-    Clocks, Identifiers, Stamp, Taker, Waiting, open_clocks, stamp_of, take_mark, take_record,
-    take_rest,
+    Clocks, Identifiers, Listener, Stamp, Taker, Waiting, clocks_heard, open_clocks, stamp_judged,
+    take_mark, take_record, take_rest, tell_heard,
 };
 use wsm_windows::is_time;
 
@@ -58,7 +59,7 @@ impl RowTurns {
     ghost use Rattle.wsm_turns.specs.declared.clocks.Clocks.{Clocks as AnyClocks};
     ghost use Rattle.wsm_turns.specs.Clocks.{AreClocks};
     ghost use Rattle.wsm_turns.specs.Turns.{Setting, stamp_of};
-    ghost use Rattle.wsm_row_watermarks.specs.Fits.{Begins, Ends, Fits, Goes, Turned, spoken_read};
+    ghost use Rattle.wsm_row_watermarks.specs.Fits.{Begins, Ends, Fits, Goes, IsJudged, Turned, spoken_read};
     ghost use Rattle.wsm_row_watermarks.specs.Lines.{Line, line_of};
     ghost use Rattle.wsm_row_watermarks.specs.Turns.{State, is_left_out, is_unread, marked, recorded, row_turn};
 
@@ -139,6 +140,7 @@ impl RowTurns {
 
     // The turn of the event that was read.
     fn serve(&mut self) -> Result<(), AllocError>
+        requires { IsJudged self.old }
         ensures { (w : Setting) (s : State) (line : Line) → line.said ≡ Ok (spoken_read self.old) → Begins w self.old s line.text → OnOk result (Goes w self.old self.new (row_turn w s self.old.counts.lines line) false (is_left_out w s line.said)) }
     {
         match self.events.event() {
@@ -170,9 +172,11 @@ impl RowTurns {
 
     // The turn of a record.
     fn serve_record(&mut self) -> Result<(), AllocError>
+        requires { IsJudged self.old }
         ensures { (w : Setting) (s : State) (line : Line) → Begins w self.old s line.text → OnOk result (let x = spoken_read self.old in Goes w self.old self.new (recorded w s self.old.counts.lines line x) false (is_left_out w s (Ok x))) }
     {
-        match stamp_of(self.handed.schema(), self.events.event()) {
+        let values_fit = self.events.values_fit();
+        match stamp_judged(self.handed.schema(), self.events.event(), values_fit) {
             None => self.handed.take(self.counts.lines, self.events.event()),
             Some(stamp) => self.serve_stamped(stamp),
         }
@@ -203,13 +207,22 @@ impl RowTurns {
     }
 
     /// Ends the turns. The rows are then those of the records that waited, and the last watermark that there is, where it is asked for.
-    pub fn end(&mut self, last: bool) -> Result<Counts, AllocError>
+    pub fn end(&mut self, last: bool) -> Result<Totals, AllocError>
         ensures { (w : Setting) (once : Option ℕ) (lines : List (List ℕ)) → Fits w once self.old lines → IfOk result (Ends w once last self.new lines) }
     {
         self.handed.begin(0);
         take_rest(&self.waiting, &mut self.handed)?;
         self.handed.add_last(last)?;
-        Ok(self.counts)
+        Ok(Totals {
+            counts: self.counts,
+            late: self.handed.late(),
+            heard: clocks_heard(&self.waiting),
+        })
+    }
+
+    /// Tells a listener what the clocks have come to, where there are any and it is told after as many lines.
+    pub fn tell<L: Listener>(&self, listener: &mut L) {
+        tell_heard(&self.waiting, self.counts.lines, listener);
     }
 
     /// Gives a device the rows. Where it can't, it took a beginning of them and has failed.
@@ -220,7 +233,7 @@ impl RowTurns {
         ensures part { OnErr result (TakesPart (D.taken out.old) (D.taken out.new) self.now.handed.text.items) }
         ensures fails { OnErr result (D.has_failed out.new ≡ true) }
     {
-        write_out(out, &self.handed.text)
+        write_lines(out, &self.handed.text)
     }
 }
 

@@ -16,7 +16,7 @@ returns-in_err-write-clause-ends_early g c =
     let mid = g.D.Device.taken c.args.out.now in
     let new = g.D.Device.taken c.write.new.out in
     let rows = rows_text w (lines_read w once read) in
-    let whole = last_text w once c.args.last read c.end.new.self c.in_ok-counts.counts (c.in_ok-counts.ensures w once (reverse read) stands.fits) in
+    let whole = last_text w once c.args.last read c.end.new.self c.in_ok-totals.totals (c.in_ok-totals.ensures w once (reverse read) stands.fits) in
     inr (record { all = all; part = subst (TakesPart old new) whole (TakesPart-last old mid new rows c.end.new.self.handed.text.items stands.text c.in_err-write.ensures.part) }))
 
 pub returns-in_err-flush-clause-ends_early : goal.returns-in_err-flush-clause-ends_early
@@ -28,7 +28,7 @@ returns-in_err-flush-clause-ends_early g c =
     let end = g.D.Device.taken c.flush.new.self in
     let last = c.end.new.self.handed.text.items in
     let rows = rows_text w (lines_read w once read) in
-    let whole = last_text w once c.args.last read c.end.new.self c.in_ok-counts.counts (c.in_ok-counts.ensures w once (reverse read) stands.fits) in
+    let whole = last_text w once c.args.last read c.end.new.self c.in_ok-totals.totals (c.in_ok-totals.ensures w once (reverse read) stands.fits) in
     let written = Keeps-Appends old new end (rows ++ last) (Appends-join old mid new rows last stands.text c.in_ok-write.ensures.all) c.in_err-flush.ensures.kept in
     inr (record { all = all; part = subst (TakesPart old end) whole (TakesPart-all old end (rows ++ last) written) }))
 
@@ -39,6 +39,6 @@ returns-clause-completes g c = λ known w once read old all stands.
     let end = g.D.Device.taken c.flush.new.self in
     let last = c.end.new.self.handed.text.items in
     let rows = rows_text w (lines_read w once read) in
-    let ends = c.in_ok-counts.ensures w once (reverse read) stands.fits in
+    let ends = c.in_ok-totals.ensures w once (reverse read) stands.fits in
     let written = Keeps-Appends old new end (rows ++ last) (Appends-join old mid new rows last stands.text c.in_ok-write.ensures.all) c.in_ok-flush.ensures.kept in
-    record { all = all; text = subst (Appends old end) (last_text w once c.args.last read c.end.new.self c.in_ok-counts.counts ends) written; counts = ends.counts }
+    record { all = all; text = subst (Appends old end) (last_text w once c.args.last read c.end.new.self c.in_ok-totals.totals ends) written; totals = ends.totals }
