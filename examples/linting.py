@@ -590,7 +590,7 @@ WORDS = {
     "CHANGES": "Write `EMIT PANES`, with `EARLY EVERY 1` and `LATE EVERY 1` for each change; or `EMIT ISTREAM`.",
     "FINAL": "Write `EMIT PANES` without EARLY and LATE: a pane when it is complete, and a last one for what came late.",
     "GRACE": "Write `LATENESS 60 FROM WINDOW;` in front of RECORDS.",
-    "WATERMARK": "Watermarks are rows, `w,TIME`: examples/watermarks (`wsm-watermarks`) writes them.",
+    "WATERMARK": "Watermarks are rows, `w,TIME`: `wsm watermarks` writes them.",
     "INTERVAL": "Times are whole numbers in the unit of your rows.",
     "FLOAT DOUBLE REAL DECIMAL NUMERIC MONEY": "Numbers are whole: an amount is in cents, a reading in watt hours: `INT 0..1000000`.",
     "TEXT STRING VARCHAR CHAR UUID": "There is no free text: declare the names, `ENUM(red, blue)`, or make it the key.",

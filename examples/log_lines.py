@@ -35,7 +35,7 @@ def whole_log(descriptor: int) -> List[bytes]:
     parts = []
     while True:
         try:
-            text = Signals.read(descriptor, None)
+            text = Signals.read(descriptor)
         except OSError as why:
             raise Ended(f"read failed: {why.strerror}", BAD_READ) from None
         if not text:

@@ -1,10 +1,8 @@
 """Lines of rows as they come, for the tools beside it: read as bytes, and what is odd about them told on standard error.
 
-A tool that passes rows on hands each list of lines on before it waits for the next one. Nothing is told more often
-than at the first case, at each doubling of their number, where a minute has passed, and at the end.
+Nothing is told more often than at the first case, at each doubling of their number, and where a minute has passed.
 """
 import os
-import select
 import signal
 import sys
 import time
@@ -16,6 +14,7 @@ from query_text import Query, Refused, Tokens
 
 LONGEST = 1 << 16  # bytes of a line; no row that `wsm` takes is as long
 SHOWN = 80
+HEADER = [b"r", b"KEY", b"TIME"]  # how a first row with the names of the fields begins
 UNREAD = b"unread"  # what stands in the place of a line that could swallow the rows behind it
 MARK_OF_ORDER = b"\xef\xbb\xbf"
 BAD_WORDS, BAD_QUERY, BAD_READ, BAD_WRITE = 2, 3, 6, 7  # statuses, as `wsm` has them
@@ -36,14 +35,12 @@ class Signals:
             raise Stopped
 
     @classmethod
-    def read(cls, descriptor, pause):
-        """What has come, nothing at the end, None after a pause."""
+    def read(cls, descriptor):
+        """What has come, nothing at the end."""
         try:
             cls.is_waiting = True
             if cls.number:
                 return b""
-            if pause is not None and not select.select([descriptor], [], [], pause)[0]:
-                return None
             return os.read(descriptor, LONGEST)
         except Stopped:
             return b""
@@ -102,8 +99,8 @@ def opened(path):
         raise Ended(f"{path}: {why.strerror}", BAD_READ) from None
 
 
-def lines_of(descriptor, pause=None, cut=None):
-    """Lists of lines, each as soon as it has come, and an empty one after a pause in which nothing came.
+def lines_of(descriptor, cut=None):
+    """Lists of lines, each as soon as it has come.
 
     A line has no line feed. One that is longer than LONGEST comes as its beginning behind a quote, so that no tool takes
     it for a row. A last one that lacks its line feed is a line too; but where there is a list for what is cut off, it is
@@ -112,12 +109,9 @@ def lines_of(descriptor, pause=None, cut=None):
     parts, size, is_first = [], 0, True
     while True:
         try:
-            text = Signals.read(descriptor, pause)
+            text = Signals.read(descriptor)
         except OSError as why:
             raise Ended(f"read failed: {why.strerror}", BAD_READ) from None
-        if text is None:
-            yield []
-            continue
         if not text:
             break
         if b"\r" in text:
@@ -178,22 +172,6 @@ def lock_of(path):
     return os.fdopen(os.open(f"{path}.lock", flags, 0o666), "r+")
 
 
-def write(lines):
-    """Hands lines on, at once. A pipe takes each write whole or not at all, so a kill leaves no part of a line there.
-
-    That holds for lines of up to PIPE_BUF bytes; longer ones go by themselves.
-    """
-    out, text, at = sys.stdout.buffer, b"".join(line + b"\n" for line in lines), 0
-    try:
-        while at < len(text):
-            end = text.rfind(b"\n", at, at + select.PIPE_BUF) + 1 or text.index(b"\n", at) + 1
-            out.write(text[at:end])
-            out.flush()
-            at = end
-    except OSError:
-        raise Ended("write failed", BAD_WRITE) from None
-
-
 def printable(text):
     """A text in characters that a terminal shows."""
     return "".join(one if one.isprintable() else one.encode("unicode_escape").decode() for one in text)
@@ -215,10 +193,6 @@ class Tally:
         if self.count >= self.next or time.monotonic() - self.at >= 60:
             print(f"{self.tool}: {self.what}: {self.count}, line {number}: {shown(line)}", file=sys.stderr, flush=True)
             self.next, self.at = 2 * self.count, time.monotonic()
-
-    def end(self):
-        if self.count > 1:
-            print(f"{self.tool}: {self.what}: {self.count} in all", file=sys.stderr, flush=True)
 
 
 def was_stopped():

@@ -4,7 +4,8 @@ It says from the words of docs/SOURCES.md alone which records and watermarks a q
 out as its identifier came before, what waits as it is too far ahead, and what goes on at the end. Lines are read by
 trials/source_reading.py.
 """
-from dataclasses import dataclass, field
+import re
+from dataclasses import dataclass, field, replace
 from functools import cached_property
 
 from reference import Query, Stream
@@ -166,6 +167,71 @@ class Feeding:
         for one in self.waiting:
             self.go(*one)
         return self
+
+
+@dataclass
+class Filtering(Feeding):
+    """The rows that `wsm watermarks` writes of rows, by docs/LOGS.md. The identifier of a record, if it has one, is its fourth cell."""
+    odd: int = 0  # lines that are no rows
+
+    def __post_init__(self):
+        super().__post_init__()
+        self.source = Source(replace(self.rules, has_identifiers=False).source, self.rules.query)
+
+    def take_line(self, text):
+        row, identifier = self.taken_apart(text)
+        tag, *cells = row.split(",")
+        if tag == "w" and len(cells) == 1 and re.fullmatch("[0-9]{1,18}", cells[0]):
+            self.take_watermark(row, int(cells[0]))
+            return
+        said = self.source.read(row.encode())
+        if isinstance(said, str):
+            self.odd += row != "" and said != "NoKey"  # an empty key is one that isn't declared
+            self.feed(row, self.count)
+        elif not self.source.declared.fits(said):
+            self.feed(row, self.count)
+        elif self.is_double(replace(said, identifier=identifier)):
+            self.doubles += 1
+        else:
+            self.stamps += 1
+            self.clocks[said.key] = (self.stamps, said.time)
+            self.stamped(said.time, self.count, (row, said.row()))
+
+    def taken_apart(self, text):
+        """What goes on of a line, and its identifier."""
+        cells = text.split(",")
+        if not self.rules.has_identifiers or cells[0] != "r" or len(cells) < 4:
+            return text, None
+        identifier = cells.pop(3)
+        return ",".join(cells), identifier or None
+
+    def take_watermark(self, row, time):
+        """A watermark among the rows: what waits and isn't ahead of it goes in front."""
+        if time <= LATEST:
+            top = max(self.watermark, time)
+            for its, its_line, its_rows in [one for one in self.waiting if one[0] <= top]:
+                self.raise_to(min(top, self.rules.behind(its)))
+                self.go(its, its_line, its_rows)
+            self.waiting = [one for one in self.waiting if one[0] > top]
+            self.watermark = max(self.watermark, time)
+        self.feed(row, self.count)
+
+    def go(self, time, line, rows):
+        """A record goes on as its line, or where it waited as the row that says it."""
+        super().go(time, line, rows[0] if line == self.count else rows[1])
+
+    def end(self):
+        self.count += 1
+        return super().end()
+
+    def text(self, has_last):
+        rows = [row for row in self.rows if row != ""]
+        return "".join(f"{row}\n" for row in rows + [f"w,{LATEST}"] * (has_last and self.watermark < LATEST))
+
+    def said(self):
+        """What is told on standard error."""
+        counts = (("lines that are no rows", self.odd), ("records that are late", len(self.late)))
+        return [f"wsm: {what}: {count}" for what, count in counts if count] + self.told
 
 
 def fed_of(rules, lines):

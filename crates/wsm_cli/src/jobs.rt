@@ -7,6 +7,7 @@ use crate::logs::write_log_rows;
 use crate::programs::{compile, migrated};
 use crate::runs::run;
 use crate::stop::Stop;
+use crate::watermarks::follow;
 use std::fs::File;
 use std::io::Eprint;
 use std::rt::Files;
@@ -28,5 +29,6 @@ pub fn done<R: Files<File = File> + AllocGlobal + Input + Print + Eprint + Clock
         Job::Deal(job) => deal_or_tell(rt, job),
         Job::Rows(job) => write_log_rows(rt, job, is_looked_at),
         Job::Keep(job) => keep(rt, job),
+        Job::Watermarks(job) => follow(rt, job),
     }
 }

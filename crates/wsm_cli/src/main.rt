@@ -18,6 +18,7 @@ mod runs;
 mod sources;
 mod stop;
 mod sums;
+mod watermarks;
 
 use crate::jobs::done;
 use crate::stop::{REFUSED_WORDS, Stop, WordsFault};

@@ -70,6 +70,12 @@ pub enum WordsFault {
     KeysAsPart(usize),
     /// An option takes a number, and has none.
     NoNumber(&'static str),
+    /// An identifier stands in no such cell.
+    NoCell,
+    /// No clocks are as the words say, or the query's SKEW is too small for them.
+    NoClocks,
+    /// The query has sources and none of them is named, or one is named that it hasn't.
+    NoSource,
 }
 
 impl fmt::Display for WordsFault {
@@ -80,6 +86,13 @@ impl fmt::Display for WordsFault {
             WordsFault::RowsAsPart(part) => write!(f, "ROWS is the file of part {part}"),
             WordsFault::KeysAsPart(part) => write!(f, "KEYS is the file of part {part}"),
             WordsFault::NoNumber(option) => write!(f, "{option} takes a number"),
+            WordsFault::NoCell => f.write_str("--once takes the number of a cell, from 4 on"),
+            WordsFault::NoClocks => f.write_str(
+                "K is 1 to 1000, STEP 1 or more, --room at most 1000000, and SKEW at least BOUND + STEP - 1",
+            ),
+            WordsFault::NoSource => f.write_str(
+                "--source names one of the query's SOURCES, and is left out where it has none",
+            ),
         }
     }
 }

@@ -4,8 +4,9 @@ use Rattle.clap.specs.Words.{App, Row, Rule, Text, IsAmong, Kinds, first_of, kin
 use Rattle.clap.specs.declared.builder.ArgAction.TheVariants.{SetTrue}
 use Rattle.clap.specs.declared.error.Error.{Error}
 use Rattle.clap.specs.declared.error.kind.ErrorKind.TheVariants.{OutOfMemory}
+use Rattle.wsm_words.specs.declared.job.Agreement.{Agreement}
 use Rattle.wsm_words.specs.declared.job.Job.{Job}
-use Rattle.wsm_words.specs.declared.job.Job.TheVariants.{Run, Compile, Migrate, Verify, Explain, Deal, Rows, Keep}
+use Rattle.wsm_words.specs.declared.job.Job.TheVariants.{Run, Compile, Migrate, Verify, Explain, Deal, Rows, Keep, Watermarks}
 use Rattle.wsm_words.specs.declared.words.WordsRefusal.{WordsRefusal}
 use Rattle.wsm_words.specs.declared.words.WordsRefusal.TheVariants.{Words, Memory}
 
@@ -20,6 +21,10 @@ flag_rule name = record (new_rule name) { long = Some name; action = Some SetTru
 -- an option with one value, by its name
 abbrev pub option_rule : Text → Rule
 option_rule name = record (new_rule name) { long = Some name; value_names = 1 }
+
+-- an option that has to be given
+abbrev pub needed_rule : Text → Rule
+needed_rule name = record (new_rule name) { long = Some name; value_names = 1; required = true }
 
 -- [ROWS]
 abbrev pub rows_rule : Rule
@@ -66,6 +71,21 @@ keeping_app = with_rule (with_rule (with_rule (new_app (codes "keep")) (flag_rul
 abbrev pub keep_app : App
 keep_app = with_rule (with_rule keeping_app (file_rule (codes "query"))) rows_rule
 
+-- watermarks [--program] [--agree K] --bound BOUND [--step STEP]
+abbrev pub agreeing_app : App
+agreeing_app =
+    with_rule (with_rule (with_rule (with_rule (new_app (codes "watermarks")) (flag_rule (codes "program"))) (option_rule (codes "agree"))) (needed_rule (codes "bound")))
+    (option_rule (codes "step"))
+
+-- the same with [--forget N] [--room N] [--source NAME] [--once CELL]
+abbrev pub waiting_app : App
+waiting_app =
+    with_rule (with_rule (with_rule (with_rule agreeing_app (option_rule (codes "forget"))) (option_rule (codes "room"))) (option_rule (codes "source"))) (option_rule (codes "once"))
+
+-- and with [--last] QUERY [ROWS]
+abbrev pub watermarks_app : App
+watermarks_app = with_rule (with_rule (with_rule waiting_app (flag_rule (codes "last"))) (file_rule (codes "query"))) rows_rule
+
 -- the program's command, which wants a subcommand and tells its version
 abbrev pub required_app : App
 required_app = let a = new_app (codes "wsm") in record a { top = record a.top { has_version = true; subcommand_required = true } }
@@ -86,9 +106,13 @@ judging_apps = with_subcommand (with_subcommand writing_app verify_app.top) expl
 abbrev pub row_apps : App
 row_apps = with_subcommand (with_subcommand judging_apps deal_app.top) rows_app.top
 
--- and with the one that cuts rows: all of them
+-- and with the one that cuts rows
+abbrev pub cutting_apps : App
+cutting_apps = with_subcommand row_apps keep_app.top
+
+-- and with the one that writes watermarks: all of them
 abbrev pub the_app : App
-the_app = with_subcommand row_apps keep_app.top
+the_app = with_subcommand cutting_apps watermarks_app.top
 
 -- what a flag's text says: one of these, or there is none
 abbrev pub SaysFlag : Option Text → Bool → Type 0
@@ -111,6 +135,12 @@ rows_named (Some name) = if bytes_eq name (codes "-") then None else Some name
 abbrev pub NamesRows : {Z : Type 0} → List Row → Option (String Z) → Type 0
 NamesRows entries rows = option_map string_bytes rows ≡ rows_named (first_of (codes "rows") entries)
 
+-- it has what the entries say of clocks that agree
+abbrev pub IsAgreement : List Row → Agreement → Type 0
+IsAgreement entries a =
+    HasOption entries (codes "agree") a.agree × Names entries (codes "bound") a.bound × HasOption entries (codes "step") a.step
+    × HasOption entries (codes "forget") a.forget × HasOption entries (codes "room") a.room
+
 -- the job has what the entries of the command of its name have
 abbrev pub IsJob : Text → List Row → Job → Type 0
 IsJob name entries (Run job) =
@@ -131,6 +161,10 @@ IsJob name entries (Rows job) =
 IsJob name entries (Keep job) =
     (name ≡ codes "keep") × SaysFlag (one_of (codes "program") entries) job.program
     × HasOption entries (codes "taken") job.taken × HasOption entries (codes "most") job.most
+    × Names entries (codes "query") job.query × NamesRows entries job.rows
+IsJob name entries (Watermarks job) =
+    (name ≡ codes "watermarks") × SaysFlag (one_of (codes "program") entries) job.program × IsAgreement entries job.agreement
+    × HasOption entries (codes "source") job.source × HasOption entries (codes "once") job.once × SaysFlag (one_of (codes "last") entries) job.last
     × Names entries (codes "query") job.query × NamesRows entries job.rows
 
 -- a job is that of the subcommand and its entries

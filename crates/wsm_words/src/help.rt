@@ -293,3 +293,71 @@ A file is cut in place where it becomes smaller: `wsm keep sums.wsm rows.csv`. T
 beside, synced and renamed, so a kill leaves the old file or the new one. It isn't cut while somebody
 holds a lock (flock) on ROWS.lock: whoever appends to ROWS does, or is stopped before. Who reads it
 begins anew. A last line without its line feed stays as it is.";
+
+/// What the command `watermarks` does.
+pub const WATERMARKS: &str =
+    "Puts watermarks among rows, where the clocks of their keys have agreed on a time.";
+
+/// What the option for how many clocks have to agree says.
+pub const AGREE: &str =
+    "How many keys have to agree on a time, 1 to 1000; 1 where it is left out, which believes each";
+
+/// What the option for how far behind the watermark stays says.
+pub const BOUND: &str = "How far behind the time that they agree on a watermark stays";
+
+/// What the option for the steps of watermarks says.
+pub const STEP: &str = "Watermarks are multiples of STEP; 1 where it is left out";
+
+/// What the option for how long a key is heard says.
+pub const FORGET: &str =
+    "A key is heard while its last record is among the last N of all; 1000000 where it is left out";
+
+/// What the option for how many records may wait says.
+pub const ROOM: &str = "How many records may wait; 1000 where it is left out";
+
+/// What the option for the source of the watermarks says.
+pub const MARK_SOURCE: &str =
+    "The source of QUERY of which watermarks are written, where it has SOURCES";
+
+/// What the option for the cell of the identifier says.
+pub const ONCE: &str =
+    "Cell CELL of a record, from 4 on, is its identifier: one that came before is left out, and none goes on with it";
+
+/// What the flag for the last watermark says.
+pub const LAST: &str =
+    "Ends the rows with a watermark that completes all windows; rows that go on must not have it";
+
+/// An example of the command `watermarks`.
+pub const WATERMARKS_EXAMPLE: &str = "With the query of `wsm --help`,
+
+  printf 'r,a,5,7\\nr,b,59,3\\nr,a,64,1\\nr,b,62,1\\n' | wsm watermarks --agree 2 --bound 2 --step 5 sums.wsm
+
+writes
+
+  r,a,5,7
+  r,b,59,3
+  w,55
+  r,a,64,1
+  w,60
+  r,b,62,1
+
+Each key is a clock, which shows the time of its last record. A watermark stands BOUND behind the
+latest time to which K clocks have come, down to a multiple of STEP, in front of the record that raises
+it. So fewer than K clocks that are wrong at a time move none. A record that is more than SKEW ahead of
+the watermark waits until it is near, and goes on then as a row anew; at the end all go. SKEW must be
+BOUND + STEP - 1 or more.
+
+Each line is one row: one that is no row goes on as it is, and as `unread` where it has a quote, or a
+carriage return that doesn't end it, or is longer than 65,536 bytes. A line without a byte is left out.
+A watermark among the rows goes on, and none that is lower is written behind it.
+
+  printf 'r,a,5,x1,7\\nr,a,5,x1,7\\n' | wsm watermarks --bound 2 --once 4 sums.wsm
+
+writes
+
+  w,3
+  r,a,5,7
+
+An identifier is kept until a record of its time would be late by QUERY. A line that is no row goes on
+without its cell too. At the end it tells on standard error how many lines were no rows, how many
+records were late by QUERY, were left out, and waited until then, and where fewer than K keys speak.";

@@ -19,6 +19,8 @@ pub enum Job {
     Rows(RowsJob),
     /// To cut rows down to those that a run needs to go on.
     Keep(KeepJob),
+    /// To write rows with watermarks among them.
+    Watermarks(WatermarksJob),
 }
 
 // A job is let go in one call, however many parts it has.
@@ -33,6 +35,7 @@ impl Drop for Job {
             Job::Deal(_job) => {}
             Job::Rows(_job) => {}
             Job::Keep(_job) => {}
+            Job::Watermarks(_job) => {}
         }
     }
 }
@@ -129,4 +132,38 @@ pub struct KeepJob {
     pub query: String,
     /// The file of the rows, which is replaced; standard input where none is named, or `-`.
     pub rows: Option<String>,
+}
+
+/// To write rows with watermarks among them.
+#[derive(Debug, Drop)]
+pub struct WatermarksJob {
+    /// Whether the file has the bytes of a program, and not the text of a query.
+    pub program: bool,
+    /// By which agreement of clocks.
+    pub agreement: Agreement,
+    /// The source of which watermarks are written; none where the query has no sources.
+    pub source: Option<String>,
+    /// In which cell of a record, from 1 on, its identifier stands; none where records have none.
+    pub once: Option<String>,
+    /// Whether a watermark ends the rows that completes all windows.
+    pub last: bool,
+    /// The file of the query or the program.
+    pub query: String,
+    /// The file of the rows; standard input where none is named, or `-`.
+    pub rows: Option<String>,
+}
+
+/// By which agreement of clocks watermarks are written, each number as the words say it.
+#[derive(Debug, Drop)]
+pub struct Agreement {
+    /// How many clocks have to agree.
+    pub agree: Option<String>,
+    /// How far behind the time that they agree on a watermark stays.
+    pub bound: String,
+    /// In which steps watermarks go.
+    pub step: Option<String>,
+    /// After how many records without one of its own a clock isn't heard.
+    pub forget: Option<String>,
+    /// How many records may wait.
+    pub room: Option<String>,
 }

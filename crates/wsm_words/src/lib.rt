@@ -16,7 +16,8 @@
 #![tactic(auto)]
 
 pub use job::{
-    CompileJob, DealJob, ExplainJob, Job, KeepJob, MigrateJob, RowsJob, RunJob, VerifyJob,
+    Agreement, CompileJob, DealJob, ExplainJob, Job, KeepJob, MigrateJob, RowsJob, RunJob,
+    VerifyJob, WatermarksJob,
 };
 pub use words::{WordsRefusal, command_of};
 

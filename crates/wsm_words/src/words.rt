@@ -2,11 +2,12 @@
 
 ghost use Rattle.std.specs.Prelude.{◌≡◌, true, false, IfOk, IfErr, codes, map, option_map, string_bytes};
 ghost use Rattle.clap.specs.Words.{app_of, first_of, one_of, new_app, fault_of, found_of, rows_of as entries_of, rule_of, subcommand_of, subcommand_rows_of, takes};
-ghost use Rattle.wsm_words.specs.Words.{the_app, query_app, required_app, run_app, compile_app, judging_apps, verify_app, explain_app, migrate_app, writing_app, dealing_app, deal_app, rows_app, row_apps, keeping_app, keep_app, file_rule, flag_rule, option_rule, rows_rule, AnswersFaults, HasOption, IsJob, IsJobOf, IsMemory, Names, NamesRows, SaysFlag, rows_named};
+ghost use Rattle.wsm_words.specs.Words.{the_app, query_app, required_app, run_app, compile_app, judging_apps, verify_app, explain_app, migrate_app, writing_app, dealing_app, deal_app, rows_app, row_apps, keeping_app, keep_app, cutting_apps, agreeing_app, waiting_app, watermarks_app, file_rule, flag_rule, needed_rule, option_rule, rows_rule, AnswersFaults, HasOption, IsAgreement, IsJob, IsJobOf, IsMemory, Names, NamesRows, SaysFlag, rows_named};
 
 use crate::help;
 use crate::job::{
-    CompileJob, DealJob, ExplainJob, Job, KeepJob, MigrateJob, RowsJob, RunJob, VerifyJob,
+    Agreement, CompileJob, DealJob, ExplainJob, Job, KeepJob, MigrateJob, RowsJob, RunJob,
+    VerifyJob, WatermarksJob,
 };
 use crate::version::version_text;
 use clap::error::ErrorKind;
@@ -48,8 +49,9 @@ impl From<clap::Error> for WordsRefusal {
 /// The job that the words ask for, the program's own name first among them. A subcommand is
 /// required: `run [--program] [--from SOURCE] QUERY [ROWS]`, `compile QUERY OUT`, `migrate PROGRAM OUT`,
 /// `verify [--query] [--from SOURCE] PROGRAM`, `explain [--query] PROGRAM`,
-/// `deal [--keys-of] KEYS PARTS OUT [ROWS]`, `rows [--program] SOURCE QUERY [LOG]` or
-/// `keep [--program] [--taken LINES] [--most BYTES] QUERY [ROWS]`. Words that `clap` takes are refused for
+/// `deal [--keys-of] KEYS PARTS OUT [ROWS]`, `rows [--program] SOURCE QUERY [LOG]`,
+/// `keep [--program] [--taken LINES] [--most BYTES] QUERY [ROWS]` or `watermarks [--program] [--agree K] --bound BOUND
+/// [--step STEP] [--forget N] [--room N] [--source NAME] [--once CELL] [--last] QUERY [ROWS]`. Words that `clap` takes are refused for
 /// want of memory alone. Others are refused by a fault that `clap` finds in them, or for want of memory.
 pub fn command_of(alloc: Global, words: &[&str]) -> Result<Job, WordsRefusal>
     ensures job { IfOk result (IsJobOf (subcommand_of the_app (map (λ s. s.now) words.now))) }
@@ -65,11 +67,19 @@ pub fn command_of(alloc: Global, words: &[&str]) -> Result<Job, WordsRefusal>
 fn wsm_command<'a>(alloc: Global, version: &'a str) -> Result<Command<'a>, AllocError>
     ensures { IfOk result (λ c. app_of c ≡ the_app) }
 {
+    let wsm = cutting_commands(alloc, version)?.subcommand(watermarks_command(alloc)?)?;
+    Ok(wsm)
+}
+
+// The program's command, with all its subcommands but the one that writes watermarks.
+fn cutting_commands<'a>(alloc: Global, version: &'a str) -> Result<Command<'a>, AllocError>
+    ensures { IfOk result (λ c. app_of c ≡ cutting_apps) }
+{
     let wsm = row_commands(alloc, version)?.subcommand(keep_command(alloc)?)?;
     Ok(wsm)
 }
 
-// The program's command, with all its subcommands but the one that cuts rows.
+// The program's command, with the subcommands that take a query, write a program, judge one, or deal or write rows.
 fn row_commands<'a>(alloc: Global, version: &'a str) -> Result<Command<'a>, AllocError>
     ensures { IfOk result (λ c. app_of c ≡ row_apps) }
 {
@@ -224,6 +234,46 @@ fn keeping_command<'a>(alloc: Global) -> Result<Command<'a>, AllocError>
     Ok(keep)
 }
 
+// `watermarks [--program] [--agree K] --bound BOUND [--step STEP] [--forget N] [--room N] [--source NAME] [--once CELL] [--last] QUERY [ROWS]`
+fn watermarks_command<'a>(alloc: Global) -> Result<Command<'a>, AllocError>
+    ensures { IfOk result (λ c. app_of c ≡ watermarks_app) }
+{
+    let watermarks = waiting_command(alloc)?
+        .arg(flag(alloc, "last", help::LAST))?
+        .arg(file(alloc, "query", "QUERY", help::QUERY_OR_PROGRAM))?
+        .arg(rows_file(alloc, "ROWS", help::ROWS))?;
+    Ok(watermarks)
+}
+
+// `watermarks [--program] [--agree K] --bound BOUND [--step STEP] [--forget N] [--room N] [--source NAME] [--once CELL]`
+fn waiting_command<'a>(alloc: Global) -> Result<Command<'a>, AllocError>
+    ensures { IfOk result (λ c. app_of c ≡ waiting_app) }
+{
+    let watermarks = agreeing_command(alloc)?
+        .arg(option(alloc, "forget", "N", help::FORGET))?
+        .arg(option(alloc, "room", "N", help::ROOM))?
+        .arg(option(alloc, "source", "NAME", help::MARK_SOURCE))?
+        .arg(option(alloc, "once", "CELL", help::ONCE))?;
+    Ok(watermarks)
+}
+
+// `watermarks [--program] [--agree K] --bound BOUND [--step STEP]`
+fn agreeing_command<'a>(alloc: Global) -> Result<Command<'a>, AllocError>
+    ensures { IfOk result (λ c. app_of c ≡ agreeing_app) }
+{
+    let watermarks = command(
+        alloc,
+        "watermarks",
+        help::WATERMARKS,
+        help::WATERMARKS_EXAMPLE,
+    )
+    .arg(flag(alloc, "program", help::IS_PROGRAM))?
+    .arg(option(alloc, "agree", "K", help::AGREE))?
+    .arg(needed(alloc, "bound", "BOUND", help::BOUND))?
+    .arg(option(alloc, "step", "STEP", help::STEP))?;
+    Ok(watermarks)
+}
+
 // A command with the texts of its help.
 fn command<'a>(alloc: Global, name: &'a str, about: &'a str, example: &'a str) -> Command<'a>
     ensures { app_of result ≡ new_app name.entry.now }
@@ -251,6 +301,18 @@ fn option<'a>(alloc: Global, name: &'a str, value: &'a str, help: &'a str) -> Ar
         .value_name(value)
         .help(help)
         .long(name)
+}
+
+// An option with one value, which has to be given.
+fn needed<'a>(alloc: Global, name: &'a str, value: &'a str, help: &'a str) -> Arg<'a>
+    ensures rule { rule_of result ≡ needed_rule name.entry.now }
+    ensures local { result.global ≡ false }
+{
+    Arg::new(alloc, name)
+        .value_name(value)
+        .help(help)
+        .long(name)
+        .required(true)
 }
 
 // A file that has to be named.
@@ -300,6 +362,9 @@ fn job_of(alloc: Global, matches: &ArgMatches<'_>) -> Result<Job, WordsRefusal>
     }
     if let Some(inner) = matches.subcommand_matches("keep") {
         return keep_job(alloc, inner);
+    }
+    if let Some(inner) = matches.subcommand_matches("watermarks") {
+        return watermarks_job(alloc, inner);
     }
     // This doesn't come: `wsm_command` has no other subcommand, and requires one.
     Err(WordsRefusal::Memory)
@@ -422,6 +487,48 @@ fn keep_job(alloc: Global, inner: &ArgMatches<'_>) -> Result<Job, WordsRefusal>
     }))
 }
 
+// The job of the words behind `watermarks`.
+fn watermarks_job(alloc: Global, inner: &ArgMatches<'_>) -> Result<Job, WordsRefusal>
+    ensures job { IfOk result (IsJob (codes "watermarks") (entries_of (found_of inner.now))) }
+    ensures refused { IfErr result IsMemory }
+{
+    let program = flag_of(inner, "program");
+    let last = flag_of(inner, "last");
+    let agreement = agreement_of(alloc, inner)?;
+    let source = option_of(alloc, inner, "source")?;
+    let once = option_of(alloc, inner, "once")?;
+    let query = file_of(alloc, inner, "query")?;
+    let rows = rows_in(alloc, inner)?;
+    Ok(Job::Watermarks(WatermarksJob {
+        program,
+        agreement,
+        source,
+        once,
+        last,
+        query,
+        rows,
+    }))
+}
+
+// The agreement of clocks that a parse gives.
+fn agreement_of(alloc: Global, inner: &ArgMatches<'_>) -> Result<Agreement, WordsRefusal>
+    ensures agreement { IfOk result (IsAgreement (entries_of (found_of inner.now))) }
+    ensures refused { IfErr result IsMemory }
+{
+    let agree = option_of(alloc, inner, "agree")?;
+    let bound = file_of(alloc, inner, "bound")?;
+    let step = option_of(alloc, inner, "step")?;
+    let forget = option_of(alloc, inner, "forget")?;
+    let room = option_of(alloc, inner, "room")?;
+    Ok(Agreement {
+        agree,
+        bound,
+        step,
+        forget,
+        room,
+    })
+}
+
 // Whether a parse gives a flag.
 fn flag_of(inner: &ArgMatches<'_>, name: &str) -> bool
     ensures { SaysFlag (one_of name.now (entries_of (found_of inner.now))) result }
@@ -441,14 +548,14 @@ fn option_of(
     Ok(value)
 }
 
-// The name of a file that a parse gives: its words have one.
+// The name of a file, or another text, that a parse gives: its words have one.
 fn file_of(alloc: Global, inner: &ArgMatches<'_>, id: &str) -> Result<String, WordsRefusal>
     ensures named { IfOk result (Names (entries_of (found_of inner.now)) id.now) }
     ensures refused { IfErr result IsMemory }
 {
     match text_of(alloc, inner.get_str(id))? {
         Some(name) => Ok(name),
-        // This doesn't come: `file` has each of them required, so `clap` refuses words without one.
+        // This doesn't come: `file` and `needed` have each of them required, so `clap` refuses words without one.
         None => Err(WordsRefusal::Memory),
     }
 }

@@ -5,5 +5,5 @@ use Rattle.wsm_words.proofs.words.wsm_command.Goals as goal
 
 pub returns : goal.returns
 returns c =
-    let keep_is = c.in_ok-keep_command.ensures in
-    c.in_ok-wsm.ensures.shape (third_fails _ _ _ _ (ap (λ (a : App). a.top.is_plain) keep_is)) ∙ ap₂ with_subcommand c.in_ok-row_commands.ensures (ap (λ (a : App). a.top) keep_is)
+    let watermarks_is = c.in_ok-watermarks_command.ensures in
+    c.in_ok-wsm.ensures.shape (third_fails _ _ _ _ (ap (λ (a : App). a.top.is_plain) watermarks_is)) ∙ ap₂ with_subcommand c.in_ok-cutting_commands.ensures (ap (λ (a : App). a.top) watermarks_is)

@@ -1,41 +1,27 @@
-"""Where watermarks stand among rows, by bounded delay, for `watermarks` and for the tools that go by the same rule.
+"""Where watermarks stand among the rows that `gather` adds to a file, by bounded delay.
 
-Rows keep their order and their text. What is kept between two rows is a few numbers, and the rows that are held back.
+Rows keep their order and their text. A time raises the watermark once a second record agrees with it, within JUMP. What
+is kept between two rows is a few numbers, and the rows that are held back.
 """
 import sys
 
 sys.dont_write_bytecode = True
 
 from query_text import LATEST, value_of
-from row_lines import UNREAD, Ended, Tally, cleaned, time_of, was_stopped
+from row_lines import HEADER, UNREAD, Ended, Tally, cleaned, time_of
 
 MOST_HELD = 1000  # rows that wait for two that agree
 MOST_BYTES = 1 << 24
-HEADER = [b"r", b"KEY", b"TIME"]  # how a first row with the names of the fields begins
-
-
-def last_end(query, time):
-    """The end of the last window of records up to a time."""
-    return time + query.size if query.shape == "SESSION" else time // query.period * query.period + query.size
-
-
-def end_of_windows(query, time):
-    """The watermark that completes all windows of records up to a time."""
-    has_final = query.late != 1  # a late record that was not shown at once is shown LATENESS past the end
-    return min(last_end(query, time) + (query.lateness if has_final else 0), LATEST)
 
 
 class Watermarks:
     """Takes lists of lines, and gives them back with watermarks among them."""
 
-    def __init__(self, query, bound, step, jump, source=None, tool="watermarks"):
-        self.query, self.bound, self.step, self.jump, self.tool = query, bound, step, jump, tool
-        self.source = source and source.encode()
-        self.head = b"w,%s," % self.source if source else b"w,"
-        self.unread = Tally(tool, "lines that are no rows")
-        self.strange = Tally(tool, f"records that no other agrees with within {jump}")
-        behind = f"records more than LATENESS behind the watermark of {source}" if source else "records that will be late"
-        self.late = Tally(tool, behind)
+    def __init__(self, query, bound, step, jump):
+        self.query, self.bound, self.step, self.jump = query, bound, step, jump
+        self.unread = Tally("gather", "lines that are no rows")
+        self.strange = Tally("gather", f"records that no other agrees with within {jump}")
+        self.late = Tally("gather", "records that will be late")
         self.number = self.marks = self.records = 0
         self.greatest = None    # of the times that were agreed with
         self.top = None         # the greatest time that may be in a window
@@ -176,7 +162,7 @@ class Watermarks:
             if mark > self.written:
                 self.written = mark
                 self.marks += 1
-                self.out.append(b"%s%d" % (self.head, mark))
+                self.out.append(b"w,%d" % mark)
                 self.compute_bounds()
 
     def hand_on(self, number, row, time):
@@ -203,14 +189,11 @@ class Watermarks:
 
     def take_watermark(self, row, cells):
         """Takes note of a watermark; whether it is one."""
-        if cells[0] != b"w" or len(cells) != (3 if self.query.sources else 2) or not cells[-1].isdigit():
+        if cells[0] != b"w" or len(cells) != 2 or not cells[1].isdigit():
             return False
-        time = time_of([b"r", b"", cells[-1]])
+        time = time_of([b"r", b"", cells[1]])
         if time > LATEST:
             return False
-        if self.query.sources and cells[1] != self.source:
-            self.pass_on(row, None)
-            return True
         if self.candidate is not None and abs(time - self.candidate) <= self.jump:
             self.settle(time)
         self.release()
@@ -219,26 +202,6 @@ class Watermarks:
         self.written = max(time, self.written)
         self.out.append(row)
         return True
-
-    # ---- the end
-
-    def end(self, is_last):
-        """The lines that end the rows, with the watermark that completes all windows where this is asked for.
-
-        Where it isn't, and the last windows have no watermark at their end, that is told.
-        """
-        self.out = []
-        self.release()
-        if is_last and self.top is not None:
-            mark = end_of_windows(self.query, self.top)
-            if mark > self.written:
-                self.written = mark
-                self.out.append(b"%s%d" % (self.head, mark))
-        for tally in (self.unread, self.strange, self.late):
-            tally.end()
-        if not was_stopped() and self.top is not None and self.written < min(last_end(self.query, self.top), LATEST):
-            print(f"{self.tool}: the last windows aren't complete, and have no pane on time: --last ends a file", file=sys.stderr, flush=True)
-        return self.out
 
     # ---- what is kept of it
 

@@ -1,0 +1,200 @@
+//! Rows with watermarks among them: files, standard input and standard output.
+
+ghost use Rattle.std.specs.Prelude.{IfOk};
+ghost use Rattle.wsm_turns.specs.Clocks.{AreClocks};
+
+use crate::counts::Teller;
+use crate::deals::number_of;
+use crate::files::{accepted, end_of};
+use crate::stop::{Stop, WordsFault};
+use std::alloc::{AllocError, Global};
+use std::fs::File;
+use std::io::{self, Eprint, Read};
+use std::rt::Files;
+use wsm::{End, Guarded};
+use wsm_log_run::{LogCounts, end_of_log};
+use wsm_record::{DeclaredField, Field, FieldType, Name, Names, Schema, SchemaRefusal, Ty};
+use wsm_row_watermarks::{FIRST_PLACE, Rules, Times, Totals, write_watermarks};
+use wsm_rules::Verified;
+use wsm_turns::{Clocks, clocks_of};
+use wsm_words::{Agreement, WatermarksJob};
+
+/// Writes the rows of a file, or of standard input, with watermarks among them, and tells what was odd.
+pub fn follow<R: Files + AllocGlobal + Input + Print + Eprint>(
+    rt: &R,
+    job: &WatermarksJob,
+) -> Result<bool, Stop> {
+    let rules = rules_of(rt, job)?;
+    let totals = match &job.rows {
+        None => written(rt, rules, rt.reader())?,
+        Some(rows) => match File::open(rt, rows.as_str()) {
+            Ok(rows) => written(rt, rules, rows)?,
+            Err(error) => return Err(Stop::End(end_of(&error, End::ReadFailed))),
+        },
+    };
+    tell(rt, totals);
+    Ok(true)
+}
+
+fn written<R: AllocGlobal + Print + Eprint, I: Read + Drop>(
+    rt: &R,
+    rules: Rules,
+    rows: I,
+) -> Result<Totals, End>
+    requires { AreClocks rules.clocks }
+{
+    let mut output = Guarded::new(io::writer(rt));
+    let mut teller = Teller::new(rt);
+    match write_watermarks(rt.alloc(), rules, rows, &mut output, &mut teller) {
+        Ok(totals) => Ok(totals),
+        Err(end) => Err(end_of_log(end)),
+    }
+}
+
+// Tells how many lines are no rows, how many records were late, left out or waited, and whether too few clocks speak.
+fn tell<R: Eprint>(rt: &R, totals: Totals) {
+    let (unread, late) = (totals.counts.unread, totals.late);
+    if unread != 0 {
+        let _ = eprintln!(rt; "wsm: lines that are no rows: {unread}");
+    }
+    if late != 0 {
+        let _ = eprintln!(rt; "wsm: records that are late: {late}");
+    }
+    Teller::new(rt).tell(LogCounts {
+        doubles: totals.counts.doubles,
+        heard: totals.heard,
+    });
+}
+
+// By what rows are taken.
+fn rules_of<R: Files + AllocGlobal>(rt: &R, job: &WatermarksJob) -> Result<Rules, Stop>
+    ensures { IfOk result (λ rules. AreClocks rules.clocks) }
+{
+    let verified = accepted(rt, job.program, &job.query)?;
+    rules_for(rt.alloc(), &verified, job)
+}
+
+// The same for an accepted program.
+fn rules_for(alloc: Global, verified: &Verified, job: &WatermarksJob) -> Result<Rules, Stop>
+    ensures { IfOk result (λ rules. AreClocks rules.clocks) }
+{
+    let once = place_of(job.once.as_ref())?;
+    let clocks = clocks_for(&job.agreement, verified)?;
+    let schema = schema_for(
+        alloc,
+        &verified.program().header().schema,
+        job.source.as_ref(),
+    )?;
+    Ok(Rules {
+        schema,
+        times: Times::of(verified),
+        clocks: Some(clocks),
+        once,
+        last: job.last,
+    })
+}
+
+// The place of the cell with an identifier, from 0 on.
+fn place_of(cell: Option<&String>) -> Result<Option<usize>, Stop> {
+    match cell {
+        None => Ok(None),
+        Some(word) => match number_of(word) {
+            Some(cell) if FIRST_PLACE < cell => Ok(Some(cell - 1)),
+            _ => Err(Stop::Words(WordsFault::NoCell)),
+        },
+    }
+}
+
+// The number of an option, or what it is where it is left out.
+fn number_or(word: Option<&String>, option: &'static str, default: u64) -> Result<u64, Stop> {
+    match word {
+        None => Ok(default),
+        Some(word) => match number_of(word) {
+            Some(number) => Ok(number as u64),
+            None => Err(Stop::Words(WordsFault::NoNumber(option))),
+        },
+    }
+}
+
+// The clocks that the words ask for.
+fn clocks_for(agreement: &Agreement, verified: &Verified) -> Result<Clocks, Stop>
+    ensures { IfOk result (λ clocks. AreClocks (Some clocks)) }
+{
+    let agree = number_or(agreement.agree.as_ref(), "--agree", 1)?;
+    let bound = number_or(Some(&agreement.bound), "--bound", 0)?;
+    let step = number_or(agreement.step.as_ref(), "--step", 1)?;
+    let forget = number_or(agreement.forget.as_ref(), "--forget", 1_000_000)?;
+    let room = number_or(agreement.room.as_ref(), "--room", 1000)?;
+    let clock = verified.program().header().clock;
+    match clocks_of(agree, bound, step, forget, room, clock.start, clock.skew) {
+        Some(clocks) => Ok(clocks),
+        None => Err(Stop::Words(WordsFault::NoClocks)),
+    }
+}
+
+// What a query declares, with the source of the watermarks first.
+fn schema_for(alloc: Global, schema: &Schema, source: Option<&String>) -> Result<Schema, Stop> {
+    let first = match (source, schema.sources().len()) {
+        (None, 0) => 0,
+        (Some(name), count) if count != 0 => match schema.sources().number_of(name.as_bytes()) {
+            Some(number) => number,
+            None => return Err(Stop::Words(WordsFault::NoSource)),
+        },
+        _ => return Err(Stop::Words(WordsFault::NoSource)),
+    };
+    match copied(alloc, schema, first) {
+        Ok(schema) => Ok(schema),
+        Err(_) => Err(Stop::End(End::Memory)),
+    }
+}
+
+// The same schema, with the source of a number first.
+fn copied(alloc: Global, schema: &Schema, first: u16) -> Result<Schema, SchemaRefusal> {
+    let keys = names_in(alloc, schema.keys(), 0)?;
+    let sources = names_in(alloc, schema.sources(), first)?;
+    let fields = fields_in(alloc, schema.fields())?;
+    Schema::new(alloc, &keys, &fields, &sources)
+}
+
+// Names, with the one of a number first.
+fn names_in(alloc: Global, names: &Names, first: u16) -> Result<Vec<Name>, AllocError> {
+    let mut list = Vec::new(alloc);
+    add_name(names, first, &mut list)?;
+    for number in 0..names.len() as u16 {
+        if number != first {
+            add_name(names, number, &mut list)?;
+        }
+    }
+    Ok(list)
+}
+
+fn add_name(names: &Names, number: u16, list: &mut Vec<Name>) -> Result<(), AllocError> {
+    if names.len() <= number as usize {
+        return Ok(());
+    }
+    match Name::new(names.text_of(number)) {
+        Some(name) => Ok(list.push(name)?),
+        None => Ok(()),
+    }
+}
+
+fn fields_in(alloc: Global, fields: &[DeclaredField]) -> Result<Vec<Field>, AllocError> {
+    let mut list = Vec::new(alloc);
+    for field in fields {
+        if let Some(name) = Name::new(field.name.as_bytes()) {
+            list.push(Field {
+                name,
+                ty: type_of(alloc, &field.ty)?,
+            })?;
+        }
+    }
+    Ok(list)
+}
+
+fn type_of(alloc: Global, ty: &FieldType) -> Result<Ty, AllocError> {
+    match ty {
+        FieldType::Int { lo, hi } => Ok(Ty::Int { lo: *lo, hi: *hi }),
+        FieldType::Bool => Ok(Ty::Bool),
+        FieldType::Enum(names) => Ok(Ty::Enum(names_in(alloc, names, 0)?)),
+    }
+}
