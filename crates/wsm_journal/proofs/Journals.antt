@@ -1,47 +1,13 @@
 -- Journals that were written are read back, with whatever stands behind them.
-use Rattle.std.proofs.Common.{◌≡◌, ◌∙◌, ℕ, zero, suc, ◌+◌, ◌%◌, ◌^◌, ◌<◌, ◌≤◌, List, [], ◌∷◌, ◌++◌, length, Bool, true, false, ◌||◌, cond, Option, Some, None, option_and_then, refl, sym, ap, arith, append_assoc, append-nil, length-append}
-use Rattle.std.specs.Fmt.{decimal}
+use Rattle.std.proofs.Common.{◌≡◌, ◌∙◌, ℕ, ◌+◌, ◌<◌, ◌==◌, List, [], ◌∷◌, ◌++◌, length, Bool, true, false, ◌||◌, cond, Option, Some, None, option_and_then, refl, sym, ap, arith, append_assoc, append-nil, length-append}
 use Rattle.std.proofs.lemmas.List.{drop_at}
-use Rattle.std.proofs.lemmas.Bool.{and_parts, and_from, lt-ltb}
-use Rattle.std.proofs.lemmas.Fmt.{decimal_by_steps}
-use Rattle.wsm_sums.proofs.Sums.{sum_of-lt}
-use Rattle.wsm_journal.specs.Text.{Entry, IsRecord, AreRecords, are_bytes, head_text, entry_head, entry_sum, record_text, journal_text, last_number}
+use Rattle.std.proofs.lemmas.Bool.{and_parts, and_from}
+use Rattle.wsm_journal.specs.Text.{Entry, IsRecord, AreRecords, are_rows, are_rows_from, ends_line_from, mark_text, record_text, journal_text, last_number}
 use Rattle.wsm_journal.specs.Reading.{reading_with, with_whole, whole_at, mark_from, whole_if, next_whole, is_later, is_whole_later, later_from, is_damaged, behind_of, read_from, read_journal}
 use Rattle.wsm_journal.specs.Laws.{FitsNoSum, torn_of, read_as}
 use Rattle.wsm_journal.specs.declared.reading.Behind.TheVariants.{Torn, Damage}
 use Rattle.wsm_journal.proofs.ReadLemmas.{joined, read_from-some, read_from-none}
-use Rattle.wsm_journal.proofs.Written.{next_read, whole_read, record_text-is, length-record_text, mark_text-some}
-
--- ---- a sum is a number that can be read
-
-bytes_append : (xs ys : List ℕ) → are_bytes xs ≡ true → are_bytes ys ≡ true → are_bytes (xs ++ ys) ≡ true
-bytes_append [] ys one two = two
-bytes_append (x ∷ xs) ys one two =
-    let parts = and_parts _ _ one in
-    and_from _ _ parts.0 (bytes_append xs ys parts.1 two)
-
-digit_byte : (n : ℕ) → n < 10 → are_bytes ((48 + n) ∷ []) ≡ true
-digit_byte n small = and_from _ _ (lt-ltb (48 + n) 256 (omega arith)) refl
-
-digits_bytes : (n : ℕ) (digits : List ℕ) → 10 ≤ n → are_bytes digits ≡ true → are_bytes (digits ++ ((48 + n % 10) ∷ [])) ≡ true
-digits_bytes n digits large all = bytes_append digits ((48 + n % 10) ∷ []) all (digit_byte (n % 10) (omega arith))
-
-decimal_bytes : (n : ℕ) → n < 2 ^ 64 → are_bytes (decimal n) ≡ true
-decimal_bytes n fits = decimal_by_steps (λ m digits. are_bytes digits ≡ true) digit_byte digits_bytes n fits
-
-cell_bytes : (n : ℕ) (y : List ℕ) → n < 2 ^ 64 → are_bytes y ≡ true → are_bytes (decimal n ++ (44 ∷ y)) ≡ true
-cell_bytes n y fits rest = bytes_append (decimal n) (44 ∷ y) (decimal_bytes n fits) rest
-
-head_bytes : (e : Entry) → IsRecord e → are_bytes (entry_head e) ≡ true
-unfolding entry_head head_text
-head_bytes e good = cell_bytes e.number _ good.number (cell_bytes (length e.rows) _ good.size (cell_bytes e.lines [] good.lines refl))
-
-pub sum_fits : (e : Entry) → IsRecord e → entry_sum e < 2 ^ 64
-unfolding entry_sum
-sum_fits e good =
-    let all : are_bytes (e.rows ++ (entry_head e ++ e.position)) ≡ true = bytes_append e.rows _ good.row_bytes (bytes_append (entry_head e) _ (head_bytes e good) good.position_bytes) in
-    let small = sum_of-lt (e.rows ++ (entry_head e ++ e.position)) all in
-    omega arith
+use Rattle.wsm_journal.proofs.Written.{next_read, whole_read, record_text-is, record_text-parts, length-record_text, mark_text-some}
 
 -- ---- whole records are read back
 
@@ -52,7 +18,7 @@ one_read last e y good =
     let some = mark_text-some e in
     let parts = length-record_text e in
     let long = length-append (record_text e) y in
-    read_from-some last (record_text e ++ y) (record { entry = e; end = size }) (next_read last e y good.0 (sum_fits e good.0) good.1) (omega arith) (omega arith)
+    read_from-some last (record_text e ++ y) (record { entry = e; end = size }) (next_read last e y good.0 good.0.sum good.1) (omega arith) (omega arith)
     ∙ ap (λ t. with_whole (record { entry = e; end = size }) (read_from (Some e.number) 0 t)) (drop_at (record_text e) y size refl)
 
 pub all_read : (last : Option ℕ) (es : List Entry) (y : List ℕ) → AreRecords last es →
@@ -89,14 +55,14 @@ no_next last text none = at_place (mark_from 0 true text)
     at_place None = refl
     at_place (Some at) = ap (λ w. option_and_then (whole_if last at) w) (none at)
 
-no_later : (last : Option ℕ) (text : List ℕ) → FitsNoSum text → (i : ℕ) (rest : List ℕ) → later_from last text i rest ≡ false
-no_later last text none i [] = refl
-no_later last text none i (byte ∷ rest) =
-    ap (λ w. is_whole_later last w || later_from last text (i + 1) rest) (none i) ∙ no_later last text none (i + 1) rest
+no_later : (last : Option ℕ) (text : List ℕ) → FitsNoSum text → (i : ℕ) (begins : Bool) (rest : List ℕ) → later_from last text i begins rest ≡ false
+no_later last text none i begins [] = refl
+no_later last text none i begins (byte ∷ rest) =
+    ap (λ w. is_whole_later last begins w || later_from last text (i + 1) (byte == 10) rest) (none i) ∙ no_later last text none (i + 1) (byte == 10) rest
 
 torn_behind : (last : Option ℕ) (text : List ℕ) → FitsNoSum text → behind_of last text ≡ torn_of text
 torn_behind last [] none = refl
-torn_behind last (byte ∷ text) none = ap (λ b. cond b Damage Torn) (no_later last (byte ∷ text) none 0 (byte ∷ text))
+torn_behind last (byte ∷ text) none = ap (λ b. cond b Damage Torn) (no_later last (byte ∷ text) none 0 true (byte ∷ text))
 
 pub torn_read : (es : List Entry) (torn : List ℕ) → AreRecords None es → FitsNoSum torn → read_journal (journal_text es ++ torn) ≡ read_as es torn
 torn_read es torn good none =
@@ -112,26 +78,41 @@ written_read es good =
     ap read_journal (sym (append-nil (journal_text es))) ∙ all_read_then es [] good (no_mark_in_nothing (last_number None es))
 
 -- one record more, whole
+pub one_behind : (e : Entry) (xs : List Entry) → journal_text xs ++ record_text e ≡ journal_text (xs ++ e ∷ [])
+one_behind e [] = sym (append-nil (record_text e))
+one_behind e (x ∷ xs) = append_assoc (record_text x) (journal_text xs) (record_text e) ∙ ap (λ t. record_text x ++ t) (one_behind e xs)
+
 pub more_read : (es : List Entry) (e : Entry) → AreRecords None (es ++ e ∷ []) → read_journal (journal_text es ++ record_text e) ≡ read_as (es ++ e ∷ []) []
-more_read es e good = ap read_journal (one_behind es) ∙ written_read (es ++ e ∷ []) good
-  where
-    one_behind : (xs : List Entry) → journal_text xs ++ record_text e ≡ journal_text (xs ++ e ∷ [])
-    one_behind [] = sym (append-nil (record_text e))
-    one_behind (x ∷ xs) = append_assoc (record_text x) (journal_text xs) (record_text e) ∙ ap (λ t. record_text x ++ t) (one_behind xs)
+more_read es e good = ap read_journal (one_behind e es) ∙ written_read (es ++ e ∷ []) good
 
 -- ---- damage
 
-later_at : (last : Option ℕ) (text : List ℕ) (i at k : ℕ) (rest : List ℕ) → at ≡ i + k → k < length rest → is_whole_later last (whole_at text at) ≡ true → later_from last text i rest ≡ true
-later_at last text i at k [] is inside here = absurd (omega arith)
-later_at last text i at zero (byte ∷ rest) is inside here =
+-- whether a line begins behind some bytes
+later_at : (last : Option ℕ) (text : List ℕ) (i at : ℕ) (begins : Bool) (front rest : List ℕ) → at ≡ i + length front → 0 < length rest → is_whole_later last (ends_line_from begins front) (whole_at text at) ≡ true → later_from last text i begins (front ++ rest) ≡ true
+later_at last text i at begins [] [] is some here = absurd (omega arith)
+later_at last text i at begins [] (byte ∷ rest) is some here =
     let same : at ≡ i = omega arith in
-    ap (λ b. b || later_from last text (i + 1) rest) (ap (λ n. is_whole_later last (whole_at text n)) (sym same) ∙ here)
-later_at last text i at (suc k) (byte ∷ rest) is inside here =
-    or_true (is_whole_later last (whole_at text i)) _ (later_at last text (i + 1) at k rest (omega arith) (omega arith) here)
+    ap (λ b. b || later_from last text (i + 1) (byte == 10) rest) (ap (λ n. is_whole_later last begins (whole_at text n)) (sym same) ∙ here)
+later_at last text i at begins (byte ∷ front) rest is some here =
+    or_true (is_whole_later last begins (whole_at text i)) _ (later_at last text (i + 1) at (byte == 10) front rest (omega arith) some here)
   where
     or_true : (a b : Bool) → b ≡ true → (a || b) ≡ true
     or_true true b h = refl
     or_true false b h = h
+
+-- behind rows of a record a line begins, or it has none
+ends_append : (begins : Bool) (xs ys : List ℕ) → ends_line_from begins (xs ++ ys) ≡ ends_line_from (ends_line_from begins xs) ys
+ends_append begins [] ys = refl
+ends_append begins (x ∷ xs) ys = ends_append (x == 10) xs ys
+
+rows_end : (begins : Bool) (rows : List ℕ) → are_rows_from begins rows ≡ true → ends_line_from begins rows ≡ true
+rows_end begins [] good = good
+rows_end begins (byte ∷ rows) good = rows_end (byte == 10) rows (and_parts _ _ good).1
+
+begins_or_none : (begins : Bool) (rows : List ℕ) → are_rows rows ≡ true → (ends_line_from begins rows || length rows == 0) ≡ true
+begins_or_none true [] good = refl
+begins_or_none false [] good = refl
+begins_or_none begins (byte ∷ rows) good = ap (λ b. b || length (byte ∷ rows) == 0) (rows_end (byte == 10) rows (and_parts _ _ good).1)
 
 damaged_behind : (last : Option ℕ) (text : List ℕ) → 0 < length text → is_damaged last text ≡ true → behind_of last text ≡ Damage
 damaged_behind last [] some damaged = absurd (omega arith)
@@ -145,12 +126,19 @@ damage_read es torn e y good one later none =
     let last = last_number None es in
     let text : List ℕ = torn ++ (record_text e ++ y) in
     let at : ℕ = length torn + length e.rows in
-    let whole = ap (λ t. whole_at (torn ++ t) at) (record_text-is e y) ∙ whole_read torn e y at one (sum_fits e one) refl in
-    let there : is_whole_later last (whole_at text at) ≡ true = ap (λ w. is_whole_later last w) whole ∙ later in
+    let front : List ℕ = torn ++ e.rows in
+    let begins : Bool = ends_line_from true front in
+    let whole = ap (λ t. whole_at (torn ++ t) at) (record_text-is e y) ∙ whole_read torn e y at one one.sum refl in
+    let line : (begins || length e.rows == 0) ≡ true = ap (λ b. b || length e.rows == 0) (ends_append true torn e.rows) ∙ begins_or_none (ends_line_from true torn) e.rows one.rows in
+    let there : is_whole_later last begins (whole_at text at) ≡ true = ap (λ w. is_whole_later last begins w) whole ∙ and_from _ _ line later in
     let some = mark_text-some e in
     let parts = length-record_text e in
     let long = length-append torn (record_text e ++ y) in
     let longer = length-append (record_text e) y in
-    let damaged : is_damaged last text ≡ true = later_at last text 0 at at text (omega arith) (omega arith) there in
+    let behind = mark_text e ++ y in
+    let more = length-append (mark_text e) y in
+    let split : text ≡ front ++ behind = ap (λ t. torn ++ t) (record_text-parts e y) ∙ sym (append_assoc torn e.rows behind) in
+    let damaged : is_damaged last text ≡ true =
+    ap (λ t. later_from last text 0 true t) split ∙ later_at last text 0 at true front behind (omega (arith, length-append torn e.rows)) (omega arith) there in
     all_read_then es text good none
     ∙ ap (λ b. reading_with es (length (journal_text es)) b) (damaged_behind last text (omega arith) damaged)

@@ -1,6 +1,11 @@
+pub mod Bytes
+pub mod Searches
 pub mod ReadLemmas
 pub mod Decimals
 pub mod Ends
 pub mod Written
 pub mod Journals
+pub mod ReadRecords
 pub mod Moments
+pub mod Since
+pub mod Folders

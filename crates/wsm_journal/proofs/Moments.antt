@@ -9,7 +9,7 @@ use Rattle.wsm_journal.specs.Laws.{IsBeforeOrAfter}
 use Rattle.wsm_journal.specs.Folder.{may_be_left, file_with, settled, append_calls, replace_calls, EachMoment, LeavesOnly}
 use Rattle.wsm_journal.proofs.Journals.{more_read, torn_read}
 
-first_only : (b : Bool) → (b || false) ≡ true → b ≡ true
+pub first_only : (b : Bool) → (b || false) ≡ true → b ≡ true
 first_only true h = refl
 first_only false h = h
 
@@ -20,7 +20,7 @@ front_left synced unsynced left may =
     sym (take-append-drop (length synced) left) ∙ ap (λ t. t ++ drop (length synced) left) (sym front)
 
 -- where all is on the disk, nothing else is left
-all_left : (synced left : List ℕ) → may_be_left (file_with synced []) left ≡ true → left ≡ synced
+pub all_left : (synced left : List ℕ) → may_be_left (file_with synced []) left ≡ true → left ≡ synced
 all_left synced left may =
     let parts = and_parts _ _ may in
     let front : synced ≡ take (length synced) left = (bytes_decides synced (take (length synced) left)).0 parts.0 in
@@ -59,16 +59,7 @@ either_left false b left old new may f g = inl (g may)
 
 pub cut_replace : (old new : List ℕ) → EachMoment (LeavesOnly (λ left. (left ≡ old) ⊎ (left ≡ new))) (settled old) (replace_calls new)
 cut_replace old new =
-    let kept : (left : List ℕ) → (may_be_left (file_with old []) left || false) ≡ true → (left ≡ old) ⊎ (left ≡ new) = λ left may. inl (all_left old left (first_only _ may)) in (
-      kept,
-      (
-        kept,
-        (
-          kept,
-          (
-            λ left may. either_left _ _ left old new may (all_left new left) (λ one. all_left old left (first_only _ one)),
-            λ left may. inr (all_left new left (first_only _ may)),
-          ),
-        ),
-      ),
-    )
+    let kept : (left : List ℕ) → (may_be_left (file_with old []) left || false) ≡ true → (left ≡ old) ⊎ (left ≡ new) = λ left may. inl (all_left old left (first_only _ may)) in
+    let renamed : (left : List ℕ) → (may_be_left (file_with new []) left || (may_be_left (file_with old []) left || false)) ≡ true → (left ≡ old) ⊎ (left ≡ new) =
+    λ left may. either_left _ _ left old new may (all_left new left) (λ one. all_left old left (first_only _ one)) in
+    (kept, (kept, (kept, (kept, (renamed, λ left may. inr (all_left new left (first_only _ may)))))))

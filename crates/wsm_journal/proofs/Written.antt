@@ -27,7 +27,7 @@ from_number e y = decimal e.number ++ (44 ∷ from_bytes e y)
 abbrev from_mark : Entry → List ℕ → List ℕ
 from_mark e y = 97 ∷ 116 ∷ 44 ∷ from_number e y
 
-joined_head : (a b c y : List ℕ) → (a ++ (44 ∷ (b ++ (44 ∷ (c ++ (44 ∷ [])))))) ++ y ≡ a ++ (44 ∷ (b ++ (44 ∷ (c ++ (44 ∷ y)))))
+pub joined_head : (a b c y : List ℕ) → (a ++ (44 ∷ (b ++ (44 ∷ (c ++ (44 ∷ [])))))) ++ y ≡ a ++ (44 ∷ (b ++ (44 ∷ (c ++ (44 ∷ y)))))
 joined_head a b c y = simp append_assoc refl
 
 head_first : (e : Entry) (y : List ℕ) → entry_head e ++ from_sum e y ≡ from_mark e y
@@ -109,6 +109,10 @@ whole_read before e y at good sum is =
     ap (λ t. option_and_then (whole_with text at) (mark_of t)) line
     ∙ ap (λ o. option_and_then (whole_with text at) o) (mark_read e y good sum)
     ∙ with_parts text at e y (omega arith) (range_at before e.rows (from_mark e y) at is)
+
+pub record_text-parts : (e : Entry) (y : List ℕ) → record_text e ++ y ≡ e.rows ++ (mark_text e ++ y)
+unfolding record_text
+record_text-parts e y = append_assoc e.rows (mark_text e) y
 
 pub record_text-is : (e : Entry) (y : List ℕ) → record_text e ++ y ≡ e.rows ++ from_mark e y
 unfolding record_text

@@ -32,6 +32,7 @@ folder_with journal named next = record { journal = journal; named = named; next
 pub data Call : Type 0 where
   Append : (bytes : List ℕ) → Call
   Sync : Call
+  CreateNext : Call
   WriteNext : (bytes : List ℕ) → Call
   SyncNext : Call
   Rename : Call
@@ -47,6 +48,7 @@ on_disk f = file_with (bytes_of f) []
 abbrev pub after : Folder → Call → Folder
 after d (Append bytes) = folder_with (written bytes d.journal) d.named d.next
 after d Sync = folder_with (on_disk d.journal) d.named d.next
+after d CreateNext = folder_with d.journal d.named (file_with [] [])
 after d (WriteNext bytes) = folder_with d.journal d.named (written bytes d.next)
 after d SyncNext = folder_with d.journal d.named (on_disk d.next)
 after d Rename = folder_with d.next (d.journal ∷ d.named) (file_with [] [])
@@ -73,7 +75,7 @@ abbrev pub append_calls : List ℕ → List Call
 append_calls more = Append more ∷ Sync ∷ []
 
 abbrev pub replace_calls : List ℕ → List Call
-replace_calls text = WriteNext text ∷ SyncNext ∷ Rename ∷ SyncFolder ∷ []
+replace_calls text = CreateNext ∷ WriteNext text ∷ SyncNext ∷ Rename ∷ SyncFolder ∷ []
 
 -- before the calls, between any two and behind them
 abbrev pub EachMoment : (Folder → Type 0) → Folder → List Call → Type 0

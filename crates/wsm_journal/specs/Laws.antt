@@ -1,5 +1,6 @@
 -- What is asked of bytes behind whole records, in the laws of journals.
-use Rattle.std.specs.Prelude.{◌≡◌, ◌⊎◌, ℕ, List, [], ◌∷◌, ◌++◌, drop, length, None}
+use Rattle.std.specs.Prelude.{◌≡◌, ◌⊎◌, ◌<◌, ◌^◌, nat_lt, true, Bool, ℕ, List, [], ◌∷◌, ◌++◌, drop, length, None}
+use Rattle.std.specs.List.{list_all}
 use Rattle.wsm_journal.specs.Text.{Entry, journal_text, record_text}
 use Rattle.wsm_journal.specs.Reading.{Reading, read_journal, reading_with, whole_at}
 use Rattle.wsm_journal.specs.declared.reading.Behind.{Behind}
@@ -26,3 +27,14 @@ abbrev pub IsBeforeOrAfter : List Entry → Entry → List ℕ → Type 0
 IsBeforeOrAfter entries more text =
     (behind_records entries text ≡ record_text more) ⊎ FitsNoSum (behind_records entries text)
     → (read_journal text ≡ read_as (entries ++ more ∷ []) []) ⊎ (read_journal text ≡ read_as entries (behind_records entries text))
+
+abbrev pub are_bytes : List ℕ → Bool
+are_bytes bytes = list_all (λ byte. nat_lt byte 256) bytes
+
+-- a record that is made of bytes and of numbers of 64 bits
+pub record IsOfBytes (e : Entry) : Type 0 where
+  pub rows : are_bytes e.rows ≡ true
+  pub position : are_bytes e.position ≡ true
+  pub number : e.number < 2 ^ 64
+  pub lines : e.lines < 2 ^ 64
+  pub size : length e.rows < 2 ^ 64

@@ -4,4 +4,6 @@ pub mod Seen
 pub mod Laws
 pub mod TextRows
 pub mod Folder
+pub mod Calls
+pub mod Kept
 pub mod FolderRows

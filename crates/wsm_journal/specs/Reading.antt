@@ -106,18 +106,26 @@ abbrev pub is_later : Option ℕ → ℕ → Bool
 is_later None number = true
 is_later (Some last) number = nat_lt last number
 
-abbrev pub is_whole_later : Option ℕ → Option Whole → Bool
-is_whole_later last None = false
-is_whole_later last (Some found) = is_later last found.entry.number
+-- a line may be the last one of a record that comes later: a line begins there, or it says that the record has no other
+abbrev pub may_be_later : Option ℕ → Bool → Mark → Bool
+may_be_later last begins m = (begins || m.bytes == 0) && is_later last m.number
 
--- a record that comes later is whole somewhere from a place on; the third text is what stands from there on
-abbrev pub later_from : Option ℕ → List ℕ → ℕ → List ℕ → Bool
-later_from last text i [] = false
-later_from last text i (byte ∷ rest) = is_whole_later last (whole_at text i) || later_from last text (i + 1) rest
+-- of a record that is whole the last line begins where a line does, or it has no other; and its number comes later
+abbrev pub is_later_at : Option ℕ → Bool → Whole → Bool
+is_later_at last begins found = (begins || length found.entry.rows == 0) && is_later last found.entry.number
+
+-- one that comes later is whole at a place, of which it is told whether a line begins there
+abbrev pub is_whole_later : Option ℕ → Bool → Option Whole → Bool
+is_whole_later last begins found = option_map_or (is_later_at last begins) found false
+
+-- one that comes later is whole somewhere from a place on; the third text is what stands from there on
+abbrev pub later_from : Option ℕ → List ℕ → ℕ → Bool → List ℕ → Bool
+later_from last text i begins [] = false
+later_from last text i begins (byte ∷ rest) = is_whole_later last begins (whole_at text i) || later_from last text (i + 1) (byte == 10) rest
 
 -- a record that comes later is whole in a text
 abbrev pub is_damaged : Option ℕ → List ℕ → Bool
-is_damaged last text = later_from last text 0 text
+is_damaged last text = later_from last text 0 true text
 
 -- what stands behind the last whole record
 abbrev pub behind_of : Option ℕ → List ℕ → Behind

@@ -3,7 +3,7 @@
 --     at,NUMBER,BYTES,LINES,SUM,POSITION
 -- with the number of the record, how many bytes those lines take, how many lines of the log they came from, the CRC-32 of
 -- those bytes and of this line without its sum, and where in the log its source stands.
-use Rattle.std.specs.Prelude.{◌≡◌, ◌<◌, ℕ, ◌+◌, ◌^◌, ◌==◌, ◌&&◌, not, nat_eq, nat_le, nat_lt, List, [], ◌∷◌, ◌++◌, length, Bool, true, Option, Some, None, codes}
+use Rattle.std.specs.Prelude.{◌≡◌, ◌<◌, ℕ, ◌+◌, ◌^◌, ◌==◌, ◌&&◌, not, nat_eq, nat_le, List, [], ◌∷◌, ◌++◌, length, Bool, true, Option, Some, None, codes}
 use Rattle.std.specs.List.{starts_with, list_all}
 use Rattle.std.specs.Fmt.{decimal}
 use Rattle.wsm_sums.specs.Crc.{sum_of}
@@ -44,6 +44,11 @@ abbrev pub are_rows_from : Bool → List ℕ → Bool
 are_rows_from begins [] = begins
 are_rows_from begins (byte ∷ rows) = not (begins && is_mark (byte ∷ rows)) && are_rows_from (byte == 10) rows
 
+-- bytes end a line; what is before them ends one or doesn't
+abbrev pub ends_line_from : Bool → List ℕ → Bool
+ends_line_from begins [] = begins
+ends_line_from begins (byte ∷ bytes) = ends_line_from (byte == 10) bytes
+
 abbrev pub are_rows : List ℕ → Bool
 are_rows rows = are_rows_from true rows
 
@@ -54,18 +59,14 @@ has_no_line_feed bytes = list_all (λ byte. not (byte == 10)) bytes
 abbrev pub is_position : List ℕ → Bool
 is_position position = nat_le (length position) 1024 && has_no_line_feed position
 
-abbrev pub are_bytes : List ℕ → Bool
-are_bytes bytes = list_all (λ byte. nat_lt byte 256) bytes
-
 -- a record that can be written
 pub record IsRecord (e : Entry) : Type 0 where
   pub rows : are_rows e.rows ≡ true
   pub position : is_position e.position ≡ true
-  pub row_bytes : are_bytes e.rows ≡ true
-  pub position_bytes : are_bytes e.position ≡ true
   pub number : e.number < 2 ^ 64
   pub lines : e.lines < 2 ^ 64
   pub size : length e.rows < 2 ^ 64
+  pub sum : entry_sum e < 2 ^ 64
 
 -- the number of a record rises by one from the last one's, if there is one
 abbrev pub follows : Option ℕ → ℕ → Bool

@@ -60,6 +60,11 @@ a_number_again : read_journal (codes "at,813,0,0,2447198702,8:41\nat,813,0,0,244
 unfolding bit_step byte_step rest_after sum_behind mark_of whole_at next_whole read_from
 a_number_again = refl
 
+-- of rows that don't end a line there is no record
+a_line_within : read_journal (codes "w,60\nr,acme,70,5\nat,812,17,1,168801797,8:40\nxat,814,1,1,487392841,\n") ≡ reading_with (two_rows ∷ []) 44 Torn
+unfolding bit_step byte_step rest_after sum_behind mark_of whole_at next_whole read_from
+a_line_within = refl
+
 -- numbers have no zeros in front, and 64 bits
 a_zero : number_of (codes "0,x") ≡ Some (0, codes "x")
 a_zero = refl

@@ -1,11 +1,16 @@
 //! What holds of journals. The contract of each function is the law; a call of it does nothing.
 
-ghost use Rattle.std.specs.Prelude.{◌≡◌, ◌++◌, ◌∷◌, ◌⊎◌, [], ℕ, List, None, true, length};
-ghost use Rattle.wsm_journal.specs.Text.{Entry, AreRecords, IsRecord, journal_text, last_number, record_text};
+ghost use Rattle.std.specs.Prelude.{◌≡◌, ◌<◌, ◌^◌, ◌++◌, ◌∷◌, ◌⊎◌, [], ℕ, List, None, true, length};
+ghost use Rattle.wsm_journal.specs.Text.{Entry, AreRecords, IsRecord, entry_sum, journal_text, last_number, record_text};
 ghost use Rattle.wsm_journal.specs.Reading.{is_later, next_whole, read_journal, reading_with};
-ghost use Rattle.wsm_journal.specs.Laws.{FitsNoSum, IsBeforeOrAfter, read_as};
+ghost use Rattle.wsm_journal.specs.Laws.{FitsNoSum, IsOfBytes, IsBeforeOrAfter, read_as};
 ghost use Rattle.wsm_journal.specs.Folder.{EachMoment, LeavesOnly, after_calls, append_calls, replace_calls, settled};
 ghost use Rattle.wsm_journal.specs.declared.reading.Behind.TheVariants.{Damage};
+
+/// The sum of a record that is made of bytes fits, as is asked of records that can be written.
+pub fn sums_fit()
+    ensures { (e : Entry) → IsOfBytes e → entry_sum e < 2 ^ 64 }
+{}
 
 /// Reading what was written gives the same records, with nothing behind them.
 pub fn read_back()

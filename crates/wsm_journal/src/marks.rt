@@ -1,11 +1,12 @@
 //! The line behind a record's lines.
 
-ghost use Rattle.std.specs.Prelude.{◌≡◌, ◌<◌, ◌≤◌, ◌+◌, length, IfSome, IsTrue, option_map};
-ghost use Rattle.wsm_journal.specs.Text.{is_mark};
-ghost use Rattle.wsm_journal.specs.Reading.{line_end_from, mark_of, position_of};
+ghost use Rattle.std.specs.Prelude.{◌≡◌, ◌<◌, ◌≤◌, ◌+◌, false, length, IfSome, IsTrue, option_map};
+ghost use Rattle.wsm_journal.specs.Text.{has_no_line_feed, is_mark};
+ghost use Rattle.wsm_journal.specs.Reading.{line_end_from, mark_from, mark_of, position_of};
 ghost use Rattle.wsm_journal.specs.Seen.{mark_seen};
 
 use crate::numbers::number_of;
+use memchr::{memchr, memmem};
 
 /// The most bytes of a position.
 pub const MAX_POSITION: usize = 1024;
@@ -30,17 +31,30 @@ pub fn is_mark(text: &[u8]) -> bool
     text.starts_with(b"at,")
 }
 
+/// Where the first line behind that at the front begins that begins so.
+pub fn next_mark(text: &[u8]) -> Option<usize>
+    ensures value { result ≡ mark_from 0 false text.now }
+    ensures inside { IfSome result (λ i. i < length text.now) }
+{
+    match memmem::find(text, b"\nat,") {
+        Some(end) => Some(end + 1),
+        None => None,
+    }
+}
+
 // Where a line ends.
 fn line_end(text: &[u8]) -> Option<usize>
     ensures value { result ≡ line_end_from 0 text.now }
     ensures inside { IfSome result (λ i. i < length text.now) }
 {
-    for (i, byte) in text.iter().enumerate() {
-        if *byte == b'\n' {
-            return Some(i);
-        }
-    }
-    None
+    memchr(b'\n', text)
+}
+
+/// Whether bytes have no line feed.
+pub fn has_no_line_feed(bytes: &[u8]) -> bool
+    ensures { result ≡ has_no_line_feed bytes.now }
+{
+    line_end(bytes).is_none()
 }
 
 // The position that a text begins with, and the text behind its line.

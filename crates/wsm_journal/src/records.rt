@@ -1,12 +1,12 @@
 //! Records of a journal, read where they stand.
 
-ghost use Rattle.std.specs.Prelude.{◌≡◌, ◌<◌, ◌≤◌, ◌++◌, true, length, IfSome, option_map};
+ghost use Rattle.std.specs.Prelude.{◌≡◌, ◌+◌, ◌<◌, ◌≤◌, ◌++◌, true, length, IfSome, option_map};
 ghost use Rattle.wsm_sums.specs.Crc.{sum_of};
 ghost use Rattle.wsm_journal.specs.Text.{follows};
-ghost use Rattle.wsm_journal.specs.Reading.{mark_from, next_whole, whole_at};
-ghost use Rattle.wsm_journal.specs.Seen.{whole_seen};
+ghost use Rattle.wsm_journal.specs.Reading.{mark_from, next_whole, whole_at, whole_with};
+ghost use Rattle.wsm_journal.specs.Seen.{mark_seen, whole_seen};
 
-use crate::marks::{is_mark, mark_of};
+use crate::marks::{MarkLine, is_mark, mark_of, next_mark};
 use wsm_sums::Crc32;
 
 /// A record of a journal. Its bytes are the journal's own.
@@ -40,14 +40,12 @@ pub fn sum_of_three(first: &[u8], second: &[u8], third: &[u8]) -> u32
     sum.sum()
 }
 
-/// The whole record of which the last line begins at a place.
-#[tactic(auto, unfolding(crate::specs::Reading::whole_at))]
-pub fn whole_at(text: &[u8], at: usize) -> Option<Found<'_>>
-    requires { at ≤ length text.now }
-    ensures value { option_map whole_seen result ≡ whole_at text.now at }
-    ensures within { IfSome result (λ f. (at < f.end) × (f.end ≤ length text.now)) }
+/// The record of which the last line is this one, at a place, where that has its sum.
+pub fn whole_with<'t>(text: &'t [u8], at: usize, mark: &MarkLine<'t>) -> Option<Found<'t>>
+    requires { at + mark.now.size ≤ length text.now }
+    ensures value { option_map whole_seen result ≡ whole_with text.now at (mark_seen mark.now) }
+    ensures end { IfSome result (λ f. f.end ≡ at + mark.now.size) }
 {
-    let mark = mark_of(&text[at..])?;
     if mark.bytes > at as u64 {
         return None;
     }
@@ -67,19 +65,27 @@ pub fn whole_at(text: &[u8], at: usize) -> Option<Found<'_>>
     }
 }
 
-// Where the first line begins that begins as the last one of a record.
-fn mark_place(text: &[u8]) -> Option<usize>
+// The whole record of which the last line begins at a place.
+#[tactic(auto, unfolding(crate::specs::Reading::whole_at))]
+fn whole_at(text: &[u8], at: usize) -> Option<Found<'_>>
+    requires { at ≤ length text.now }
+    ensures value { option_map whole_seen result ≡ whole_at text.now at }
+    ensures within { IfSome result (λ f. (at < f.end) × (f.end ≤ length text.now)) }
+{
+    let mark = mark_of(&text[at..])?;
+    whole_with(text, at, &mark)
+}
+
+/// Where the first line begins that begins as the last one of a record.
+pub fn mark_place(text: &[u8]) -> Option<usize>
     ensures value { result ≡ mark_from 0 true text.now }
     ensures inside { IfSome result (λ i. i < length text.now) }
 {
-    let mut begins = true;
-    for (i, byte) in text.iter().enumerate() {
-        if begins && is_mark(&text[i..]) {
-            return Some(i);
-        }
-        begins = *byte == b'\n';
+    if is_mark(text) {
+        Some(0)
+    } else {
+        next_mark(text)
     }
-    None
 }
 
 // Whether a number rises by one from the last one, if there is one.

@@ -1,40 +1,35 @@
 //! The text of records.
 
-ghost use Rattle.std.specs.Prelude.{◌≡◌, ◌≤◌, ◌∷◌, ◌++◌, [], drop, length, take, vec_len, OnErr, OnOk};
+ghost use Rattle.std.specs.Prelude.{◌≡◌, ◌<◌, ◌≤◌, ◌^◌, true, ◌∷◌, ◌++◌, [], drop, length, take, vec_len, OnErr, OnOk};
 ghost use Rattle.wsm_sums.specs.Crc.{sum_of};
 ghost use Rattle.std.specs.Fmt.{decimal};
-ghost use Rattle.wsm_journal.specs.Text.{are_rows, entry_head, has_no_line_feed, is_position, record_text};
+ghost use Rattle.wsm_journal.specs.Text.{are_rows, ends_line_from, entry_head, entry_sum, is_position, record_text};
 ghost use Rattle.wsm_journal.specs.Seen.{entry_seen};
 
-use crate::marks::{MAX_POSITION, is_mark};
-use crate::records::Record;
+use crate::marks::{MAX_POSITION, has_no_line_feed};
+use crate::records::{Record, mark_place};
 use itoa::Buffer;
 use std::alloc::AllocError;
 use wsm_sums::Crc32;
+
+// Whether bytes end a line, or are none.
+fn ends_line(bytes: &[u8]) -> bool
+    ensures { result ≡ ends_line_from true bytes.now }
+{
+    match bytes.last() {
+        Some(byte) => *byte == b'\n',
+        None => true,
+    }
+}
 
 /// Whether bytes are whole lines, of which none begins with `at,`.
 pub fn are_rows(rows: &[u8]) -> bool
     ensures { result ≡ are_rows rows.now }
 {
-    let mut begins = true;
-    for (i, byte) in rows.iter().enumerate() {
-        if begins && is_mark(&rows[i..]) {
-            return false;
-        }
-        begins = *byte == b'\n';
+    match mark_place(rows) {
+        Some(_) => false,
+        None => ends_line(rows),
     }
-    begins
-}
-
-fn has_no_line_feed(position: &[u8]) -> bool
-    ensures { result ≡ has_no_line_feed position.now }
-{
-    for byte in position {
-        if *byte == b'\n' {
-            return false;
-        }
-    }
-    true
 }
 
 /// Whether bytes can be a position.
@@ -94,6 +89,7 @@ fn add_rest(sum: u32, position: &[u8], text: &mut Vec<u8>) -> Result<(), AllocEr
 #[tactic(auto, unfolding(crate::specs::Text::record_text, crate::specs::Text::mark_text, crate::specs::Text::entry_sum))]
 fn add_record(written: &Record<'_>, text: &mut Vec<u8>) -> Result<(), AllocError>
     ensures ok { OnOk result (text.new.items ≡ text.old.items ++ record_text (entry_seen written.now)) }
+    ensures sum { OnOk result (entry_sum (entry_seen written.now) < 2 ^ 64) }
     ensures kept { take (vec_len text.old) text.new.items ≡ text.old.items }
 {
     let start = text.len();
@@ -110,6 +106,7 @@ fn add_record(written: &Record<'_>, text: &mut Vec<u8>) -> Result<(), AllocError
 /// Where there is no memory. The text is then as it was.
 pub fn append_record(written: &Record<'_>, text: &mut Vec<u8>) -> Result<(), AllocError>
     ensures ok { OnOk result (text.new.items ≡ text.old.items ++ record_text (entry_seen written.now)) }
+    ensures sum { OnOk result (entry_sum (entry_seen written.now) < 2 ^ 64) }
     ensures err { OnErr result (text.new.items ≡ text.old.items) }
 {
     let start = text.len();
