@@ -48,8 +48,13 @@ pub fn accepted_of(alloc: Global, input: Input<'_>) -> Result<Verified, End>
     verified(alloc, costed)
 }
 
-/// The program of an input, with what it needs.
-pub(crate) fn costed_of(alloc: Global, input: Input<'_>) -> Result<Costed, End>
+/// The program of an input, with what it needs. It isn't verified.
+///
+/// # Errors
+///
+/// [`End::Refused`] where the text is no query or a check refuses it, or the bytes spell no program; else
+/// [`End::Memory`].
+pub fn costed_of(alloc: Global, input: Input<'_>) -> Result<Costed, End>
     ensures read { IfOk result (λ costed. judged input.entry ≡ Ok costed) }
     ensures refused { IfErr result (EndsBy (judged input.entry)) }
     ensures memory_apart { IfErr result (λ end. hides_memory end ≡ false) }

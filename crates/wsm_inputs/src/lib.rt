@@ -40,7 +40,7 @@
 pub use compile::compile_text;
 pub use end::{End, InputRefusal, REJECTED_STATUS, status_of};
 pub use input::Input;
-pub use inputs::accepted_of;
+pub use inputs::{accepted_of, costed_of};
 pub use judging::{judge, judge_input};
 pub use migrating::migrate;
 

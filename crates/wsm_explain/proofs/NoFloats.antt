@@ -1,0 +1,145 @@
+-- All numbers that are told are whole ones.
+use Rattle.std.proofs.Common.{◌≡◌, ℕ, Bool, true, false, ◌||◌, cond, List, [], ◌∷◌, map, ℤ, pos, negsuc, Option, Some, None, refl}
+use Rattle.std.specs.Prelude.{option_map}
+use Rattle.std.specs.Ordering.{int_eq}
+use Rattle.std.specs.Str.{is_utf8}
+use Rattle.serde_json.specs.Data.{Data, null, string}
+use Rattle.serde_json.specs.View.{items_of}
+use Rattle.serde_json.specs.Written.{has_float, items_have_float}
+use Rattle.wsm_record.specs.Schema.{FieldType, Int, Truth, Enum, DeclaredField, Declared}
+use Rattle.wsm_record.specs.declared.words.Mode.{Mode}
+use Rattle.wsm_record.specs.declared.words.Form.{Form}
+use Rattle.wsm_record.specs.declared.words.CellType.{CellType}
+use Rattle.wsm_record.specs.declared.words.CellType.TheVariants as cells
+use Rattle.wsm_windows.specs.declared.window.Shape.{Shape}
+use Rattle.wsm_windows.specs.declared.window.Shape.TheVariants.{Fixed, Sliding, Session}
+use Rattle.wsm_admission.specs.declared.clock.Clock.{Clock}
+use Rattle.wsm_check.specs.declared.refusal.CheckFault.{CheckFault}
+use Rattle.wsm_check.specs.declared.refusal.CheckFault.TheVariants.{Exceeds}
+use Rattle.wsm_program.specs.declared.program.Costs.{Costs}
+use Rattle.wsm_program.specs.Program.{Header, Program}
+use Rattle.wsm_inputs.specs.declared.input.Input.{Input}
+use Rattle.wsm_inputs.specs.declared.input.Input.TheVariants as input
+use Rattle.wsm_inputs.specs.declared.end.InputRefusal.{InputRefusal}
+use Rattle.wsm_inputs.specs.declared.end.InputRefusal.TheVariants as refusals
+use Rattle.wsm_rules.specs.Costs.{needed}
+use Rattle.wsm_explain.specs.declared.explaining.Judgement.{Judgement}
+use Rattle.wsm_explain.specs.declared.explaining.Judgement.TheVariants.{Refused, Rejected, Accepted}
+use Rattle.wsm_explain.specs.declared.parts.Span.{Span}
+use Rattle.wsm_explain.specs.declared.ways.Way.{Way}
+use Rattle.wsm_explain.specs.Json.{text_data, whole}
+use Rattle.wsm_explain.specs.Declarations.{clock_data, field_data, firing_data, range_data, trigger_data, type_data, typed_data, window_data}
+use Rattle.wsm_explain.specs.Parts.{span_data, spans_of, text_in}
+use Rattle.wsm_explain.specs.Ways.{way_data}
+use Rattle.wsm_explain.specs.Program.{code_data, declares_data, instr_data, kind_data, output_data, program_data}
+use Rattle.wsm_explain.specs.Explained.{explained_data, fault_data, joins_data, joins_of, judged_data, limit_data, refusal_data, text_parts, text_sum_data}
+
+both : (a b : Bool) → a ≡ false → b ≡ false → (a || b) ≡ false
+both true b p q = p
+both false b p q = q
+
+listed : {A : Type 0} (f : A → Data) → ((x : A) → has_float (f x) ≡ false) → (xs : List A) → items_have_float (items_of (map f xs)) ≡ false
+listed f h [] = refl
+listed f h (x ∷ xs) = both _ _ (h x) (listed f h xs)
+
+either_text : (b : Bool) (bytes : List ℕ) → has_float (cond b (string bytes) null) ≡ false
+either_text true bytes = refl
+either_text false bytes = refl
+
+text_plain : (bytes : List ℕ) → has_float (text_data bytes) ≡ false
+text_plain bytes = either_text (is_utf8 bytes) bytes
+
+whole_plain : (n : ℤ) → has_float (whole n) ≡ false
+whole_plain (pos n) = refl
+whole_plain (negsuc n) = refl
+
+range_plain : (lo hi : ℤ) → has_float (range_data lo hi) ≡ false
+range_plain lo hi = both _ _ (whole_plain hi) (both _ _ (whole_plain lo) refl)
+
+typed_plain : (name : List ℕ) (type : FieldType) → has_float (typed_data name type) ≡ false
+typed_plain name (Int lo hi) = both _ _ (text_plain name) (both _ _ (range_plain lo hi) refl)
+typed_plain name Truth = both _ _ (text_plain name) refl
+typed_plain name (Enum names) = both _ _ (text_plain name) (both _ _ (listed text_data text_plain names) refl)
+
+field_plain : (f : DeclaredField) → has_float (field_data f) ≡ false
+field_plain f = typed_plain f.name f.type
+
+clock_plain : (c : Clock) → has_float (clock_data c) ≡ false
+clock_plain c = both _ _ (whole_plain c.lateness) (both _ _ (whole_plain c.records) (both _ _ (whole_plain c.skew) (both _ _ (whole_plain c.start) refl)))
+
+window_plain : (shape : Shape) → has_float (window_data shape) ≡ false
+window_plain (Fixed size) = both _ _ (whole_plain size) (both _ _ (whole_plain size) refl)
+window_plain (Sliding size slide) = both _ _ (whole_plain size) (both _ _ (whole_plain slide) refl)
+window_plain (Session gap) = both _ _ (whole_plain gap) refl
+
+either_count : (b : Bool) (n : ℤ) → has_float (cond b null (whole n)) ≡ false
+either_count true n = refl
+either_count false n = whole_plain n
+
+trigger_plain : (n : ℤ) → has_float (trigger_data n) ≡ false
+trigger_plain n = either_count (int_eq n (pos 0)) n
+
+firing_plain : (mode : Mode) (early late : ℤ) (form : Form) → has_float (firing_data mode early late form) ≡ false
+firing_plain mode early late form = both _ _ (trigger_plain early) (both _ _ (trigger_plain late) refl)
+
+type_plain : (t : CellType) → has_float (type_data t) ≡ false
+type_plain cells.Int = refl
+type_plain cells.Bool = refl
+type_plain (cells.Enum e) = refl
+
+code_plain : (p : Program) → has_float (code_data p) ≡ false
+code_plain p =
+    both _ _ (listed kind_data (λ k. refl) p.header.kinds)
+    (both _ _ (listed instr_data (λ i. refl) p.fire) (both _ _ (listed instr_data (λ i. refl) p.update) (both _ _ (listed instr_data (λ i. refl) p.selection) refl)))
+
+declares_plain : (d : Declared) → has_float (declares_data d) ≡ false
+declares_plain d = both _ _ (listed field_data field_plain d.fields) (both _ _ (listed text_data text_plain d.keys) (both _ _ (listed text_data text_plain d.sources) refl))
+
+output_plain : (h : Header) → has_float (output_data h) ≡ false
+output_plain h = both _ _ (listed type_data type_plain h.columns) (both _ _ (firing_plain h.mode h.early h.late h.form) (both _ _ (window_plain h.shape) refl))
+
+program_plain : (p : Program) (needs : Costs) → has_float (program_data p needs) ≡ false
+program_plain p needs = both _ _ (clock_plain p.header.clock) (both _ _ (code_plain p) (both _ _ (declares_plain p.header.schema) (both _ _ (output_plain p.header) refl)))
+
+span_plain : (text : List ℕ) (s : Span) → has_float (span_data text s) ≡ false
+span_plain text s = both _ _ (text_plain (text_in text s)) refl
+
+parts_plain : (i : Input) → has_float (text_parts i) ≡ false
+parts_plain (input.Text text) = listed (span_data text.now) (span_plain text.now) (spans_of text.now)
+parts_plain (input.Program bytes) = refl
+
+limit_plain : (fault : CheckFault) → has_float (limit_data fault) ≡ false
+limit_plain (Exceeds limit counted allowed) = refl
+limit_plain fault = refl
+
+refusal_plain : (why : InputRefusal) → has_float (refusal_data why) ≡ false
+refusal_plain (refusals.Text fault position) = refl
+refusal_plain (refusals.Check fault part) = both _ _ (limit_plain fault) refl
+refusal_plain (refusals.Bytes fault) = refl
+refusal_plain (refusals.Keys fault) = refl
+
+fault_plain : (j : Judgement) → has_float (fault_data j) ≡ false
+fault_plain (Refused why) = refusal_plain why
+fault_plain (Rejected p why ways) = refl
+fault_plain (Accepted p ways) = refl
+
+ways_plain : (ways : Option (List Way)) → has_float (joins_of ways) ≡ false
+ways_plain None = refl
+ways_plain (Some ways) = listed way_data (λ w. refl) ways
+
+joins_plain : (j : Judgement) → has_float (joins_data j) ≡ false
+joins_plain (Refused why) = refl
+joins_plain (Rejected p why ways) = ways_plain (option_map (λ v. v.items) ways)
+joins_plain (Accepted p ways) = ways_plain (option_map (λ v. v.items) ways)
+
+judged_plain : (j : Judgement) → has_float (judged_data j) ≡ false
+judged_plain (Refused why) = refl
+judged_plain (Rejected p why ways) = program_plain p (needed p)
+judged_plain (Accepted p ways) = program_plain p (needed p)
+
+sum_plain : (i : Input) → has_float (text_sum_data i) ≡ false
+sum_plain (input.Text text) = refl
+sum_plain (input.Program bytes) = refl
+
+pub explained_plain : (i : Input) (j : Judgement) → has_float (explained_data i j) ≡ false
+explained_plain i j = both _ _ (fault_plain j) (both _ _ (joins_plain j) (both _ _ (parts_plain i) (both _ _ (judged_plain j) (both _ _ (sum_plain i) refl))))
