@@ -1,0 +1,9 @@
+pub mod Decimals
+pub mod Places
+pub mod EndedLemmas
+pub mod LogLemmas
+pub mod LinesRead
+pub mod SumLemmas
+pub mod OrderLemmas
+pub mod TurnLemmas
+pub mod Feeds

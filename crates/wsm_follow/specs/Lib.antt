@@ -1,0 +1,14 @@
+pub mod Names
+pub mod NameRows
+pub mod Listed
+pub mod Position
+pub mod PositionRows
+pub mod Seen
+pub mod Ended
+pub mod Logs
+pub mod Choice
+pub mod ChoiceRows
+pub mod Judged
+pub mod Reads
+pub mod Follows
+pub mod Follower

@@ -1,0 +1,355 @@
+//! The whole lines of a log, in turns.
+
+ghost use Rattle.std.specs.Prelude.{◌≡◌, IfOk, IfSome, map, option_map};
+ghost use Rattle.wsm_follow.specs.Listed.{listing};
+ghost use Rattle.wsm_follow.specs.Logs.{next_in};
+
+use crate::choice::{Candidate, Choice, Loss, chosen};
+use crate::file::{FileId, is_same};
+use crate::folder::{Folder, FolderFault};
+use crate::order::{Listed, in_order};
+use crate::position::{Name, Position};
+use crate::reading::{Found, Reading};
+use crate::sums::sums_at;
+use std::alloc::{AllocError, Global};
+
+// How many bytes are asked for at once for a sum.
+const SUMMED: usize = 4096;
+
+/// What a turn came to.
+#[derive(Drop)]
+pub enum Turn {
+    /// Whole lines were read, and are on the disk; the position is behind them.
+    Lines,
+    /// No line has ended since.
+    Nothing,
+    /// The log ended, and goes on in the one that came next; the position is at that one's beginning. So
+    /// many bytes stood behind its last line feed: a line that never ended, which is left out.
+    Next(u64),
+    /// It goes on in a copy of the log, or, where the log that ended has no name any more, in the first that
+    /// changed later: nobody can say that no line was lost.
+    Elsewhere,
+    /// The file of this name is needed, and is packed.
+    Packed(Vec<u8>),
+    /// The bytes that were read aren't there.
+    Lost(Lost),
+}
+
+/// What it would cost to go on where the bytes that were read aren't there.
+#[derive(Clone, Copy, Debug, PartialEq, Eq)]
+pub struct Lost {
+    /// Why they aren't there.
+    pub loss: Loss,
+    /// How many bytes of the log were read, which are gone or changed.
+    pub read: u64,
+    /// How many bytes there are in all the files of the log that aren't packed: begun with the oldest, these are
+    /// read, and what was read before comes again.
+    pub there: u64,
+}
+
+/// Follows a log: gives its whole lines in turns, over rotations.
+#[derive(Drop)]
+pub struct Follower {
+    log: Name,
+    position: Position,
+    reading: Reading,
+    // What is read for sums.
+    room: Vec<u8>,
+    alloc: Global,
+}
+
+// The file that stands behind another one.
+fn next_of(file: FileId, files: &[Listed]) -> Option<&Listed>
+    ensures { option_map (λ f. f.now.file) result ≡ next_in file (map (λ f. f.file) (map listing files.now)) }
+{
+    let (first, rest) = files.split_first()?;
+    let (second, _) = rest.split_first()?;
+    if is_same(first.file, file) {
+        Some(second)
+    } else {
+        next_of(file, rest)
+    }
+}
+
+// Whether a file is listed.
+fn is_listed(file: FileId, files: &[Listed]) -> bool {
+    files.iter().any(|f| is_same(f.file, file))
+}
+
+// The oldest file that changed at a time or later, or the log itself.
+fn changed_since(changed: u64, files: &[Listed]) -> Option<&Listed> {
+    files.iter().find(|f| f.is_log || changed <= f.changed)
+}
+
+// How many bytes the files have that aren't packed.
+fn bytes_there(files: &[Candidate]) -> u64 {
+    let mut sum = 0u64;
+    for file in files {
+        if !file.listed.is_packed {
+            sum = sum.saturating_add(file.listed.size);
+        }
+    }
+    sum
+}
+
+/// The position at the beginning of the log, if that is there.
+///
+/// # Errors
+///
+/// A call of the folder failed, or memory was refused.
+pub fn beginning<F: Folder>(folder: &mut F, log: Name) -> Result<Option<Position>, FolderFault>
+    ensures logs { F.logs folder.new ≡ F.logs folder.old }
+    ensures begins { IfOk result (λ o. IfSome o (λ p. p.offset ≡ 0)) }
+{
+    let files = folder.list(log.bytes())?;
+    match files.iter().find(|f| f.is_log) {
+        Some(file) => Ok(Some(Position {
+            file: file.file,
+            offset: 0,
+            head: 0,
+            tail: 0,
+            name: log,
+        })),
+        None => Ok(None),
+    }
+}
+
+impl Follower {
+    ghost use Rattle.std.specs.Prelude.{◌≡◌, ℕ, List, Ok, Some, IfOk, MatchOption, OnErr, map};
+    ghost use Rattle.wsm_follow.specs.Follows.{stand};
+    ghost use Rattle.wsm_follow.specs.Follower.{Begins, Goes, HasSums, MovesOn, Searches, Takes, at, lines_of, longest_of};
+    ghost use Rattle.wsm_follow.specs.Logs.{AreInTurn, IsAmong, Log, bytes_in, bytes_of, next_in};
+    ghost use Rattle.wsm_follow.specs.Listed.{listing};
+    ghost use Rattle.wsm_follow.specs.Seen.{place_in};
+
+    /// Follows the log of this name from a position on. Of a line at most `longest` bytes are wanted; two
+    /// more are kept of one that is longer than a read.
+    ///
+    /// # Errors
+    ///
+    /// Memory was refused.
+    pub fn new(
+        alloc: Global,
+        log: Name,
+        position: Position,
+        longest: usize,
+    ) -> Result<Follower, AllocError>
+        ensures at { IfOk result (λ f. place_in f.position ≡ place_in position) }
+        ensures longest { IfOk result (λ f. longest_of f ≡ longest) }
+    {
+        Ok(Follower {
+            log,
+            position,
+            reading: Reading::new(alloc, longest)?,
+            room: vec![in alloc; 0; SUMMED]?,
+            alloc,
+        })
+    }
+
+    /// How far the log was read.
+    pub fn position(&self) -> &Position
+        ensures { result.now ≡ self.now.position }
+    {
+        &self.position
+    }
+
+    /// The lines that the last turn gave, each with its line feed, where it was [`Turn::Lines`].
+    pub fn lines(&self) -> &[u8]
+        ensures { result.now ≡ lines_of self.now }
+    {
+        self.reading.text()
+    }
+
+    /// Reads on, once.
+    ///
+    /// # Errors
+    ///
+    /// A call of the folder failed, or memory was refused. The position is as it was.
+    pub fn turn<F: Folder>(&mut self, folder: &mut F) -> Result<Turn, FolderFault>
+        ensures logs { F.logs folder.new ≡ F.logs folder.old }
+        ensures goes { (known : List Log) → F.logs folder.old ≡ Some known → IsAmong self.old.position.file known → IfOk result (λ turn. Goes (longest_of self.old) known (at self.old) (lines_of self.new) (at self.new) turn) }
+        ensures sums { (known : List ℕ) → bytes_of self.old.position.file (F.logs folder.old) ≡ Some known → result ≡ Ok Turn.Lines → HasSums known self.new.position }
+        ensures synced { result ≡ Ok Turn.Lines → F.synced folder.new ≡ Some (self.new.position.file, self.new.position.offset) }
+        ensures stays { OnErr result (self.new.position ≡ self.old.position) }
+        ensures longest { longest_of self.new ≡ longest_of self.old }
+    {
+        if !self.is_there(folder)? {
+            return self.search(folder);
+        }
+        let (file, offset) = (self.position.file, self.position.offset);
+        match self.reading.read(folder, file, offset)? {
+            Found::Lines(end) => self.take_lines(folder, end),
+            Found::Part(end) => self.move_on(folder, end),
+        }
+    }
+
+    // Whether the position's file has the bytes that were read.
+    fn is_there<F: Folder>(&mut self, folder: &mut F) -> Result<bool, FolderFault>
+        ensures logs { F.logs folder.new ≡ F.logs folder.old }
+        ensures position { self.new.position ≡ self.old.position }
+        ensures reading { self.new.reading ≡ self.old.reading }
+    {
+        match folder.size(self.position.file)? {
+            Some(size) if self.position.offset <= size => self.fits(folder, self.position.file),
+            _ => Ok(false),
+        }
+    }
+
+    // Whether a file has the bytes that were read, by their sums.
+    fn fits<F: Folder>(&mut self, folder: &mut F, file: FileId) -> Result<bool, FolderFault>
+        ensures logs { F.logs folder.new ≡ F.logs folder.old }
+        ensures position { self.new.position ≡ self.old.position }
+        ensures reading { self.new.reading ≡ self.old.reading }
+    {
+        let (offset, head, tail) = (self.position.offset, self.position.head, self.position.tail);
+        match sums_at(folder, file, offset, self.room.as_mut_slice())? {
+            Some(sums) => Ok(sums.head == head && sums.tail == tail),
+            None => Ok(false),
+        }
+    }
+
+    // The lines that were read are on the disk, and the position behind them.
+    fn take_lines<F: Folder>(&mut self, folder: &mut F, end: u64) -> Result<Turn, FolderFault>
+        ensures logs { F.logs folder.new ≡ F.logs folder.old }
+        ensures takes { IfOk result (λ turn. Takes (at self.old) (at self.new) end turn) }
+        ensures sums { (known : List ℕ) → bytes_of self.old.position.file (F.logs folder.old) ≡ Some known → result ≡ Ok Turn.Lines → HasSums known self.new.position }
+        ensures synced { result ≡ Ok Turn.Lines → F.synced folder.new ≡ Some (self.new.position.file, self.new.position.offset) }
+        ensures stays { OnErr result (self.new.position ≡ self.old.position) }
+        ensures reading { self.new.reading ≡ self.old.reading }
+    {
+        let file = self.position.file;
+        let Some(sums) = sums_at(folder, file, end, self.room.as_mut_slice())? else {
+            return Ok(Turn::Nothing);
+        };
+        folder.sync(file, end)?;
+        self.position.offset = end;
+        self.position.head = sums.head;
+        self.position.tail = sums.tail;
+        Ok(Turn::Lines)
+    }
+
+    // The file has no line more up to its end now: goes on to the next log, where it has ended.
+    fn move_on<F: Folder>(&mut self, folder: &mut F, end: u64) -> Result<Turn, FolderFault>
+        ensures logs { F.logs folder.new ≡ F.logs folder.old }
+        ensures goes { (known : List Log) (bytes : List ℕ) → F.logs folder.old ≡ Some known → bytes_in self.old.position.file known ≡ Some bytes → IfOk result (λ turn. MovesOn known bytes end (at self.old) (at self.new) turn) }
+        ensures moves { result ≡ Ok Turn.Lines → ⊥ }
+        ensures stays { OnErr result (self.new.position ≡ self.old.position) }
+        ensures reading { self.new.reading ≡ self.old.reading }
+    {
+        let (file, offset) = (self.position.file, self.position.offset);
+        let Some(ended) = folder.ended(file)? else {
+            return Ok(Turn::Nothing);
+        };
+        if end < ended.size {
+            return Ok(Turn::Nothing);
+        }
+        let files = self.listed(folder)?;
+        self.begin_next(files.as_slice(), ended.changed, end.saturating_sub(offset))
+    }
+
+    // The position is at the beginning of the log that came next, if that is there.
+    fn begin_next(&mut self, files: &[Listed], changed: u64, left: u64) -> Result<Turn, FolderFault>
+        ensures begins { IfOk result (λ turn. Begins (next_in self.old.position.file (map (λ f. f.file) (map listing files.now))) left (at self.old) (at self.new) turn) }
+        ensures stays { OnErr result (self.new.position ≡ self.old.position) }
+        ensures reading { self.new.reading ≡ self.old.reading }
+    {
+        if let Some(next) = next_of(self.position.file, files) {
+            return Ok(match self.begin(next)? {
+                Some(name) => Turn::Packed(name),
+                None => Turn::Next(left),
+            });
+        }
+        if is_listed(self.position.file, files) {
+            return Ok(Turn::Nothing);
+        }
+        match changed_since(changed, files) {
+            Some(next) => Ok(match self.begin(next)? {
+                Some(name) => Turn::Packed(name),
+                None => Turn::Elsewhere,
+            }),
+            None => Ok(Turn::Nothing),
+        }
+    }
+
+    // The position is at the beginning of a file; of one that is packed the name is answered.
+    fn begin(&mut self, file: &Listed) -> Result<Option<Vec<u8>>, FolderFault>
+        ensures begins { IfOk result (λ o. MatchOption o (at self.new ≡ stand file.now.file 0) (λ _. self.new.position ≡ self.old.position)) }
+        ensures stays { OnErr result (self.new.position ≡ self.old.position) }
+        ensures reading { self.new.reading ≡ self.old.reading }
+    {
+        if file.is_packed {
+            return Ok(Some(file.name.clone()?));
+        }
+        let Some(name) = Name::new(self.alloc, file.name.as_slice())? else {
+            return Err(FolderFault::Failed);
+        };
+        self.position = Position {
+            file: file.file,
+            offset: 0,
+            head: 0,
+            tail: 0,
+            name,
+        };
+        Ok(None)
+    }
+
+    // The files of the log, the oldest first.
+    fn listed<F: Folder>(&self, folder: &mut F) -> Result<Vec<Listed>, FolderFault>
+        ensures logs { F.logs folder.new ≡ F.logs folder.old }
+        ensures listed { (known : List Log) → F.logs folder.old ≡ Some known → IfOk result (λ files. AreInTurn known (map listing files.items)) }
+    {
+        let files = folder.list(self.log.bytes())?;
+        Ok(in_order(self.alloc, files)?)
+    }
+
+    // Looks for the bytes that were read in the files of the log.
+    fn search<F: Folder>(&mut self, folder: &mut F) -> Result<Turn, FolderFault>
+        ensures logs { F.logs folder.new ≡ F.logs folder.old }
+        ensures searches { IfOk result (λ turn. Searches (at self.old) (at self.new) turn) }
+        ensures stays { OnErr result (self.new.position ≡ self.old.position) }
+        ensures reading { self.new.reading ≡ self.old.reading }
+    {
+        let files = self.judged(folder)?;
+        match chosen(&self.position, files.as_slice()) {
+            Choice::Own => Ok(Turn::Nothing),
+            Choice::Copy(i) => self.go_on_in(&files[i].listed),
+            Choice::Packed(i) => Ok(Turn::Packed(files[i].listed.name.clone()?)),
+            Choice::Lost(loss) => Ok(Turn::Lost(Lost {
+                loss,
+                read: self.position.offset,
+                there: bytes_there(files.as_slice()),
+            })),
+        }
+    }
+
+    // The log goes on in a copy.
+    fn go_on_in(&mut self, file: &Listed) -> Result<Turn, FolderFault>
+        ensures elsewhere { IfOk result (λ turn. turn ≡ Turn.Elsewhere) }
+        ensures stays { OnErr result (self.new.position ≡ self.old.position) }
+        ensures reading { self.new.reading ≡ self.old.reading }
+    {
+        let Some(name) = Name::new(self.alloc, file.name.as_slice())? else {
+            return Err(FolderFault::Failed);
+        };
+        self.position.file = file.file;
+        self.position.name = name;
+        Ok(Turn::Elsewhere)
+    }
+
+    // The files of the log, the oldest first, and which of them have the bytes that were read.
+    fn judged<F: Folder>(&mut self, folder: &mut F) -> Result<Vec<Candidate>, FolderFault>
+        ensures logs { F.logs folder.new ≡ F.logs folder.old }
+        ensures position { self.new.position ≡ self.old.position }
+        ensures reading { self.new.reading ≡ self.old.reading }
+    {
+        let mut judged = Vec::new(self.alloc);
+        let mut files = self.listed(folder)?;
+        'each: while !files.is_empty() {
+            let listed = files.remove(0);
+            let may_fit = !listed.is_packed && self.position.offset <= listed.size;
+            let fits = may_fit && self.fits(folder, listed.file)?;
+            judged.push(Candidate { listed, fits })?;
+        }
+        Ok(judged)
+    }
+}
