@@ -10,7 +10,7 @@ _wsm() {
         help:*) mapfile -t COMPREPLY < <(compgen -W 'run compile migrate verify explain deal rows keep watermarks' -- "$word") && return ;;
         run:-*) mapfile -t COMPREPLY < <(compgen -W '--program --from --help' -- "$word") && return ;;
         verify:-*) mapfile -t COMPREPLY < <(compgen -W '--query --from --help' -- "$word") && return ;;
-        explain:-*) mapfile -t COMPREPLY < <(compgen -W '--query --help' -- "$word") && return ;;
+        explain:-*) mapfile -t COMPREPLY < <(compgen -W '--json --query --help' -- "$word") && return ;;
         deal:-*) mapfile -t COMPREPLY < <(compgen -W '--keys-of --help' -- "$word") && return ;;
         keep:-*) mapfile -t COMPREPLY < <(compgen -W '--program --taken --most --help' -- "$word") && return ;;
         watermarks:-*) mapfile -t COMPREPLY < <(compgen -W '--program --agree --bound --step --forget --room --source --once --last --help' -- "$word") && return ;;

@@ -3,6 +3,7 @@
 use crate::files::{accepted, input_of, read};
 use crate::sources::source_for;
 use crate::stop::Stop;
+use crate::telling::tell;
 use std::io;
 use std::rt::Files;
 use wsm::{End, Guarded, judge_input};
@@ -17,9 +18,13 @@ pub fn verify<R: Files + AllocGlobal + Print>(rt: &R, job: &VerifyJob) -> Result
     }
 }
 
-/// Lists a program, or a query's, and judges it.
+/// Lists a program, or a query's, and judges it; or tells of it as JSON.
 pub fn explain<R: Files + AllocGlobal + Print>(rt: &R, job: &ExplainJob) -> Result<bool, Stop> {
-    Ok(judged(rt, job.query, &job.program, true)?)
+    if job.json {
+        tell(rt, job)
+    } else {
+        Ok(judged(rt, job.query, &job.program, true)?)
+    }
 }
 
 // Writes the judgement of a file's program, or of the program of a file's query.

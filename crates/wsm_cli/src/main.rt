@@ -18,6 +18,7 @@ mod runs;
 mod sources;
 mod stop;
 mod sums;
+mod telling;
 mod watermarks;
 
 use crate::jobs::done;

@@ -46,9 +46,9 @@ migrate_app = with_rule (with_rule (new_app (codes "migrate")) (file_rule (codes
 abbrev pub verify_app : App
 verify_app = with_rule (with_rule (with_rule (new_app (codes "verify")) (flag_rule (codes "query"))) (option_rule (codes "from"))) (file_rule (codes "program"))
 
--- explain [--query] PROGRAM
+-- explain [--json] [--query] PROGRAM
 abbrev pub explain_app : App
-explain_app = with_rule (with_rule (new_app (codes "explain")) (flag_rule (codes "query"))) (file_rule (codes "program"))
+explain_app = with_rule (with_rule (with_rule (new_app (codes "explain")) (flag_rule (codes "json"))) (flag_rule (codes "query"))) (file_rule (codes "program"))
 
 -- deal [--keys-of] KEYS PARTS
 abbrev pub dealing_app : App
@@ -151,7 +151,9 @@ IsJob name entries (Migrate job) = (name ≡ codes "migrate") × Names entries (
 IsJob name entries (Verify job) =
     (name ≡ codes "verify") × SaysFlag (one_of (codes "query") entries) job.query
     × HasOption entries (codes "from") job.from × Names entries (codes "program") job.program
-IsJob name entries (Explain job) = (name ≡ codes "explain") × SaysFlag (one_of (codes "query") entries) job.query × Names entries (codes "program") job.program
+IsJob name entries (Explain job) =
+    (name ≡ codes "explain") × SaysFlag (one_of (codes "json") entries) job.json
+    × SaysFlag (one_of (codes "query") entries) job.query × Names entries (codes "program") job.program
 IsJob name entries (Deal job) =
     (name ≡ codes "deal") × SaysFlag (one_of (codes "keys-of") entries) job.keys_of
     × Names entries (codes "keys") job.keys × Names entries (codes "parts") job.parts × Names entries (codes "out") job.out × NamesRows entries job.rows

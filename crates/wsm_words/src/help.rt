@@ -139,6 +139,9 @@ pub const PROGRAM: &str = "The file of the program";
 /// What the flag for a query says.
 pub const IS_QUERY: &str = "PROGRAM is the text of a query";
 
+/// What the flag `--json` says.
+pub const IS_JSON: &str = "Write what tools may ask, as JSON";
+
 /// What is judged.
 pub const PROGRAM_OR_QUERY: &str = "The file of the program, or of the query's text";
 
@@ -185,7 +188,12 @@ writes
   fire 3 RET
   accepted,5,4,6
 
-and so does `wsm explain --query sums.wsm`, which makes no file.";
+and so does `wsm explain --query sums.wsm`, which makes no file. With --json
+
+  wsm explain --json --query sums.wsm
+
+writes one line with what tools may ask: the keys, the fields, the clock, the windows, the columns
+with their places and how they add up, the code, what it needs, and the fault where there is one.";
 
 /// What the command `deal` does.
 pub const DEAL: &str =

@@ -11,7 +11,7 @@ pub enum Job {
     Migrate(MigrateJob),
     /// To judge a program, and whether a source fits it.
     Verify(VerifyJob),
-    /// To list a program, and to judge it.
+    /// To list a program, and to judge it; or to tell of it as JSON.
     Explain(ExplainJob),
     /// To deal rows to parts, or to write the keys of a part.
     Deal(DealJob),
@@ -82,9 +82,11 @@ pub struct VerifyJob {
     pub program: String,
 }
 
-/// To list a program, or that of a query, and to tell whether it is accepted.
+/// To list a program, or that of a query, and to tell whether it is accepted; or to tell of it as JSON.
 #[derive(Debug, Drop)]
 pub struct ExplainJob {
+    /// Whether what tools may ask is told, as JSON.
+    pub json: bool,
     /// Whether the file has the text of a query, and not the bytes of a program.
     pub query: bool,
     /// The file of the program or the query.

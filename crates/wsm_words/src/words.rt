@@ -48,7 +48,7 @@ impl From<clap::Error> for WordsRefusal {
 
 /// The job that the words ask for, the program's own name first among them. A subcommand is
 /// required: `run [--program] [--from SOURCE] QUERY [ROWS]`, `compile QUERY OUT`, `migrate PROGRAM OUT`,
-/// `verify [--query] [--from SOURCE] PROGRAM`, `explain [--query] PROGRAM`,
+/// `verify [--query] [--from SOURCE] PROGRAM`, `explain [--json] [--query] PROGRAM`,
 /// `deal [--keys-of] KEYS PARTS OUT [ROWS]`, `rows [--program] SOURCE QUERY [LOG]`,
 /// `keep [--program] [--taken LINES] [--most BYTES] QUERY [ROWS]` or `watermarks [--program] [--agree K] --bound BOUND
 /// [--step STEP] [--forget N] [--room N] [--source NAME] [--once CELL] [--last] QUERY [ROWS]`. Words that `clap` takes are refused for
@@ -170,11 +170,12 @@ fn verify_command<'a>(alloc: Global) -> Result<Command<'a>, AllocError>
     Ok(verify)
 }
 
-// `explain [--query] PROGRAM`
+// `explain [--json] [--query] PROGRAM`
 fn explain_command<'a>(alloc: Global) -> Result<Command<'a>, AllocError>
     ensures { IfOk result (λ c. app_of c ≡ explain_app) }
 {
     let explain = command(alloc, "explain", help::EXPLAIN, help::EXPLAIN_EXAMPLE)
+        .arg(flag(alloc, "json", help::IS_JSON))?
         .arg(flag(alloc, "query", help::IS_QUERY))?
         .arg(file(alloc, "program", "PROGRAM", help::PROGRAM_OR_QUERY))?;
     Ok(explain)
@@ -427,9 +428,14 @@ fn explain_job(alloc: Global, inner: &ArgMatches<'_>) -> Result<Job, WordsRefusa
     ensures job { IfOk result (IsJob (codes "explain") (entries_of (found_of inner.now))) }
     ensures refused { IfErr result IsMemory }
 {
+    let json = flag_of(inner, "json");
     let query = flag_of(inner, "query");
     let program = file_of(alloc, inner, "program")?;
-    Ok(Job::Explain(ExplainJob { query, program }))
+    Ok(Job::Explain(ExplainJob {
+        json,
+        query,
+        program,
+    }))
 }
 
 // The job of the words behind `deal`.

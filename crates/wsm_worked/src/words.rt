@@ -73,11 +73,15 @@ const JOBS: [(&[&str], &str); 20] = [
     ),
     (
         &["wsm", "explain", "p"],
-        "Explain(ExplainJob { query: false, program: \"p\" })",
+        "Explain(ExplainJob { json: false, query: false, program: \"p\" })",
     ),
     (
         &["wsm", "explain", "q", "--query"],
-        "Explain(ExplainJob { query: true, program: \"q\" })",
+        "Explain(ExplainJob { json: false, query: true, program: \"q\" })",
+    ),
+    (
+        &["wsm", "explain", "--query", "--json", "q"],
+        "Explain(ExplainJob { json: true, query: true, program: \"q\" })",
     ),
     (
         &["wsm", "rows", "s", "q", "l"],
