@@ -14,7 +14,7 @@ fn job(alloc: Global, words: &[&str]) -> Result<String, Fail> {
     }
 }
 
-const JOBS: [(&[&str], &str); 20] = [
+const JOBS: [(&[&str], &str); 21] = [
     (
         &["wsm", "run", "q"],
         "Run(RunJob { program: false, from: None, query: \"q\", rows: None })",
