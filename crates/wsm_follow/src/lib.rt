@@ -30,3 +30,5 @@ mod order;
 mod position;
 mod reading;
 mod sums;
+#[cfg(test)]
+mod tests;
