@@ -49,8 +49,9 @@ def kept_in(path):
 
 def sum_of(text):
     """A sum of a query's tokens, numbers without leading zeros, whatever its RECORDS are."""
-    tokens, found = Tokens(text), []
+    tokens, found, before = Tokens(text), [], ""
     while (token := tokens.next())[0] != "end":
         word = str(int(token[1])) if token[0] == "number" else token[1]
-        found.append("" if found[-1:] == ["RECORDS"] else word)
+        found.append("" if before == "RECORDS" else word)
+        before = token[1]
     return zlib.crc32(" ".join(found).encode("latin-1"))
