@@ -1,5 +1,5 @@
 -- Lists in parts.
-use Rattle.std.proofs.Common.{◌≡◌, ◌∙◌, subst, ℕ, suc, ◌+◌, ◌≤◌, ◌<◌, List, [], ◌∷◌, ◌++◌, length, drop, refl, sym, ap, arith, append_assoc, append-nil, length-append, length-drop, drop-drop}
+use Rattle.std.proofs.Common.{◌≡◌, ◌∙◌, subst, ℕ, suc, ◌+◌, ◌≤◌, ◌<◌, List, [], ◌∷◌, ◌++◌, length, drop, refl, sym, ap, arith, append_assoc, append-nil, length-append, length-drop}
 use Rattle.std.proofs.lemmas.List.{drop_at, drop-append-le}
 use Rattle.wsm_protocol.specs.Runs.{Text}
 use Rattle.wsm_protocol.specs.World.{Item, numbered, all_rows}
@@ -10,9 +10,6 @@ pub more_there : (all : List Text) (at : ℕ) (line : Text) (more : List Text) �
 more_there all at line more is =
     let long : length (drop at all) ≡ suc (length more) = ap length is in
     omega (arith, long, length-drop at all)
-
-pub drop_next : (all : List Text) (at : ℕ) (line : Text) (more : List Text) → drop at all ≡ line ∷ more → drop (at + 1) all ≡ more
-drop_next all at line more is = sym (drop-drop 1 at all) ∙ ap (λ t. drop 1 t) is
 
 -- these are lines of all from a place on, with their numbers
 abbrev pub IsStream : List Text → ℕ → List Item → Type 0

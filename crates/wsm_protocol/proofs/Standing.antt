@@ -1,5 +1,5 @@
 -- Journals that stand for rows of a log.
-use Rattle.std.proofs.Common.{◌≡◌, ◌∙◌, ℕ, ◌+◌, ◌≤◌, List, [], ◌++◌, length, take, drop, true, refl, sym, ap, arith, append_assoc, length-append, take-append-drop}
+use Rattle.std.proofs.Common.{◌≡◌, ◌∙◌, ℕ, ◌+◌, List, [], ◌++◌, length, take, drop, true, refl, sym, ap, arith, append_assoc, length-append, take-append-drop}
 use Rattle.std.proofs.lemmas.List.{drop_at, append_cancel_left}
 use Rattle.wsm_protocol.specs.Runs.{Run, IsRun, Text}
 use Rattle.wsm_protocol.specs.World.{Journal, numbered, all_rows, reached, lines_behind, count, with_chunk, lines_of_chunk, cut_front}
@@ -35,11 +35,6 @@ module _ (r : Run) (good : IsRun r) where
   count_is rows j f =
       let long : length (r.told (f.front ++ all_rows j.chunks)) ≡ length (r.told f.front ++ lines_behind r j) = ap length (good.resumes j.head f.front (all_rows j.chunks) f.stands) in
       omega (arith, f.lines, long, length-append (r.told f.front) (lines_behind r j))
-
-  pub count_within : (rows : List Text) (j : Journal) → Fits r rows j → count r j ≤ length (r.told rows)
-  count_within rows j f =
-      let long : length (r.told rows) ≡ length (r.told f.front ++ (lines_behind r j ++ lines_ahead rows j f)) = ap length (told_parts rows j f) in
-      omega (arith, f.lines, long, length-append (r.told f.front) (lines_behind r j ++ lines_ahead rows j f), length-append (lines_behind r j) (lines_ahead rows j f))
 
   pub behind_stream : (rows : List Text) (j : Journal) → Fits r rows j → IsStream (r.told rows) j.lines (numbered j.lines (lines_behind r j))
   behind_stream rows j f = stream_numbered (r.told rows) (r.told f.front) (lines_behind r j) (lines_ahead rows j f) j.lines (told_parts rows j f) f.lines
