@@ -1,5 +1,5 @@
 #!/usr/bin/python3
-"""Measures examples/many-keys: meters that report through a day, in one file of rows and in four by meter.
+"""Measures tools/wsm-many-keys: meters that report through a day, in one file of rows and in four by meter.
 
 usage: many_keys.py [--before SCRIPT] FOLDER [PROGRAM [TIMES [ROWS [KEYS]]]]
 
@@ -94,7 +94,7 @@ def main():
     if not (folder / "rows.csv").exists():
         write_inputs(folder, rows, keys)
     ctypes.CDLL(None).prctl(ADOPT, 1)
-    script, four = TOP / "examples/many-keys", [f"rows-{file}.csv" for file in range(FILES)]
+    script, four = TOP / "tools/wsm-many-keys", [f"rows-{file}.csv" for file in range(FILES)]
     ways = {
         "one file, 4 workers": (script, 4, ["rows.csv"]), "one file, 1 worker": (script, 1, ["rows.csv"]),
         "four files, 4 workers": (script, 4, four), **{"before: one file, 4 workers": (it, 4, ["rows.csv"]) for it in before},

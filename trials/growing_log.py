@@ -79,7 +79,7 @@ class Pipeline:
 
     def __init__(self, folder, *words):
         with open(folder / "told", "ab") as told:
-            command = [folder / "examples/live/traffic", *words]
+            command = [folder / "tools/traffic", *words]
             self.process = subprocess.Popen(command, cwd=folder, start_new_session=True, stderr=told)
 
     def kill_one(self, drawn):

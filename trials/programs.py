@@ -1,9 +1,30 @@
-"""The program that a trial runs, the words that it is called by, and what a run writes."""
+"""The program and the tools that a trial runs, the words that it is called by, and what a run writes."""
 import argparse
+import os
+import shutil
 import subprocess
+import sys
 from pathlib import Path
 
 TOP = Path(__file__).resolve().parent.parent
+TOOLS = TOP / "tools"
+sys.path.insert(0, str(TOOLS))  # for a trial that takes a tool into its own process
+
+
+def under_trial(program):
+    """The program that a trial is of, which the tools that it runs ask. They run by this Python."""
+    os.environ["WSM"] = str(Path(program).absolute())
+    os.environ["PATH"] = f"{Path(sys.executable).parent}:{os.environ['PATH']}"
+    return Path(program).absolute()
+
+
+def laid_out(folder, program=None):
+    """A folder with the examples and the tools, as they lie in a checkout, and with the program where there is one."""
+    for name in ("examples", "tools"):
+        shutil.copytree(TOP / name, folder / name)
+    if program:
+        (folder / "wsm").symlink_to(program)
+    return folder
 
 
 def parser_of(trial, page):

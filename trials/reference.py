@@ -17,12 +17,9 @@ import re
 import sys
 from collections import Counter
 from functools import cached_property
-from pathlib import Path
 
 sys.dont_write_bytecode = True
 sys.setrecursionlimit(100_000)
-
-sys.path.insert(0, str(Path(__file__).resolve().parent.parent / "examples"))
 
 from query_text import LATEST, Query, Refused, number_of, value_of
 from query_program import Program

@@ -4,7 +4,7 @@
 usage: draw.py [PROGRAM]
 
 Runs PROGRAM (`wsm` at the top of the repository where it is left out) for each query below that writes panes, and
-writes NAME.svg beside this script for NAME.wsm. `examples/drawing.py` draws, and says how to read a picture.
+writes NAME.svg beside this script for NAME.wsm. `tools/wsm_tools/drawing.py` draws, and says how to read a picture.
 """
 import sys
 from pathlib import Path
@@ -13,9 +13,9 @@ sys.dont_write_bytecode = True
 HERE = Path(__file__).resolve().parent
 TOP = HERE.parent.parent
 EXAMPLES = TOP / "examples"
-sys.path.insert(0, str(EXAMPLES))
+sys.path.insert(0, str(TOP / "tools"))
 
-from drawing import Frame, drawn
+from wsm_tools.drawing import Frame, drawn
 
 NAMES = {
     "scores": [
@@ -35,7 +35,7 @@ def main(program):
         rows = (EXAMPLES / folder / "rows.csv").read_text().split()
         for name in names:
             query = EXAMPLES / folder / f"{name}.wsm"
-            (HERE / f"{name}.svg").write_text(drawn(program, query, rows, frame=FRAME, is_measured=name in MEASURED))
+            (HERE / f"{name}.svg").write_text(drawn(str(program), str(query), rows, frame=FRAME, is_measured=name in MEASURED))
 
 
 main(sys.argv[1] if len(sys.argv) > 1 else TOP / "wsm")
