@@ -2,15 +2,22 @@
 from __future__ import annotations
 
 import re
-from typing import List, Optional, Sequence, Type, Union
+from itertools import groupby
+from operator import itemgetter
+from typing import Dict, FrozenSet, List, Optional, Sequence, Tuple, Type, Union
 
 from .asking import Column, Query
-from .tables import File, Server, quoted
+from .tables import File, Server, Work
 from .telling import BAD_QUERY, BAD_WORDS, Ended
 
 NAME = "[A-Za-z_][A-Za-z0-9_]{0,62}"
 WINDOW = ("key", "begins", "ends")
 KINDS = ("early", "on_time", "late", "final")
+WHOLE = "-?[0-9]{1,20}"
+EVERY = slice(None)
+CELLS = {"INT": WHOLE, "BOOL": "true|false", "ENUM": NAME}
+RETRACTED = "DELETE FROM panes WHERE key = ?1 AND begins = ?2 AND ends = ?3"
+GROWN_OUT_OF = "DELETE FROM panes WHERE key = ?1 AND begins >= ?2 AND ends <= ?3"  # the sessions of a key inside one that grew
 
 
 def name_of(column: Column, fields: Sequence[str]) -> Optional[str]:
@@ -28,8 +35,39 @@ def names_of(query: Query) -> List[str]:
     return [name if name and names.index(name) == at else f"column{at + 1}" for at, name in enumerate(names)]
 
 
-def is_whole(cell: str) -> bool:
-    return re.fullmatch(r"-?[0-9]{1,20}", cell) is not None
+Names = Sequence[Tuple[int, FrozenSet[str]]]
+
+
+def tag_of(line: str) -> str:
+    return line.partition(",")[0]
+
+
+class Kind:
+    """The lines of a tag: a pattern with a group for each cell that is used, which cells are names and of which, and the
+    statements of a line, each with the cells that it takes."""
+
+    def __init__(self, pattern: str, named: Names, statements: Sequence[Tuple[str, slice]]) -> None:
+        self.match = re.compile(pattern).fullmatch
+        self.named, self.statements = named, statements
+
+    def rows(self, lines: Sequence[str]) -> List[Tuple[str, ...]]:
+        """The cells of lines, up to the first that isn't one of these."""
+        rows: List[Tuple[str, ...]] = []
+        for found in map(self.match, lines):
+            if found is None:
+                break
+            rows.append(found.groups())
+        for at, names in self.named:
+            if not names.issuperset(map(itemgetter(at), rows)):
+                rows = rows[: next(number for number, row in enumerate(rows) if row[at] not in names)]
+        return rows
+
+    def works(self, rows: Sequence[Tuple[str, ...]]) -> List[Work]:
+        """What lines of such cells do, in their order."""
+        if len(self.statements) == 1:
+            statement, cells = self.statements[0]
+            return [Work(statement, [row[cells] for row in rows])]
+        return [Work(statement, [row[cells]]) for row in rows for statement, cells in self.statements]
 
 
 class Form:
@@ -42,6 +80,9 @@ class Form:
         self.greatest, self.least, self.whole = place.GREATEST, place.LEAST, place.WHOLE
         kinds = {"INT": place.WHOLE, "BOOL": place.TRUTH}
         self.types = [kinds.get(column.kind, "TEXT") for column in query.columns]
+        self.is_grown = query.shape == "SESSION" and query.mode != "RETRACTING"
+        self.insertion = self.inserting()
+        self.kinds = self.kinds_of_lines()
 
     def check_names(self) -> None:
         own = ("watermark",) if self.is_stream else (*WINDOW, "kind")
@@ -78,54 +119,47 @@ class Form:
             return [f"watermark {self.whole}", *told]
         return ["key TEXT", f"begins {self.whole}", f"ends {self.whole}", *told, "kind TEXT", "PRIMARY KEY (key, begins, ends)"]
 
-    def values(self, cells: Sequence[str]) -> Optional[List[str]]:
-        """The values of some cells as SQL, or None where they aren't those of the query's columns."""
-        if len(cells) != len(self.query.columns):
-            return None
-        values = []
-        for column, cell in zip(self.query.columns, cells):
-            if not self.is_of(column, cell):
-                return None
-            values.append(cell if column.kind == "INT" else f"'{cell}'")
-        return values
+    def cells(self) -> str:
+        """What the cells of the columns are, as a pattern with a group for each."""
+        return "".join(f",({CELLS[column.kind]})" for column in self.query.columns)
 
-    def is_of(self, column: Column, cell: str) -> bool:
-        if column.kind == "INT":
-            return is_whole(cell)
-        names = column.names if column.names is not self.query.keys else self.query.key_set
-        return cell in (("true", "false") if column.kind == "BOOL" else names)
-
-    def statements(self, line: str) -> Optional[List[str]]:
-        """The SQL of a line, or None where it is no line of this query."""
-        tag, *cells = line.split(",")
-        if not cells:
-            return None
+    def kinds_of_lines(self) -> Dict[str, Kind]:
+        """What the lines of each tag are and do."""
+        front = 1 if self.is_stream else 3
+        named = [(at, frozenset(column.names)) for at, column in enumerate(self.query.columns, front) if column.kind == "ENUM"]
         if self.is_stream:
-            values = self.values(cells[1:])
-            if tag != self.table or not is_whole(cells[0]) or values is None:
-                return None
-            return [f"INSERT INTO {self.table} VALUES ({', '.join([cells[0], *values])})"]
-        kind = cells.pop(0) if tag == "pane" else ""
-        if len(cells) < 3 or cells[0] not in self.query.key_set or not (is_whole(cells[1]) and is_whole(cells[2])):
-            return None
-        values, place = self.values(cells[3:]), [f"'{cells[0]}'", cells[1], cells[2]]
-        if values is None:
-            return None
-        if tag == "pane" and kind in KINDS:
-            return self.put(place, values, kind)
-        if tag == "retract" and self.query.mode == "RETRACTING":
-            return ["DELETE FROM panes WHERE key = {} AND begins = {} AND ends = {}".format(*place)]
-        return None
+            return {self.table: Kind(f"{self.table},({WHOLE}){self.cells()}", named, [(self.insertion, EVERY)])}
+        window = f"({NAME}),({WHOLE}),({WHOLE})"
+        named.insert(0, (0, self.query.key_set))
+        put = (self.insertion, EVERY)
+        puts = [(GROWN_OUT_OF, slice(1, 4)), put] if self.is_grown else [put]
+        panes = Kind(f"pane,({'|'.join(KINDS)}),{window}{self.cells()}", [(at + 1, names) for at, names in named], puts)
+        retracts = Kind(f"retract,{window}{self.cells()}", named, [(RETRACTED, slice(0, 3))])
+        return {"pane": panes, "retract": retracts} if self.query.mode == "RETRACTING" else {"pane": panes}
 
-    def put(self, place: Sequence[str], values: Sequence[str], kind: str) -> List[str]:
-        text = f"INSERT INTO panes VALUES ({', '.join([*place, *values, quoted(kind)])})"
-        if self.query.mode == "RETRACTING":
-            return [text]
-        if self.query.shape == "SESSION":  # it has those of its key that it grew out of inside
-            return ["DELETE FROM panes WHERE key = {} AND begins >= {} AND ends <= {}".format(*place), text]
+    def works(self, lines: Sequence[str]) -> Tuple[List[Work], int]:
+        """What lines do, and how many they are up to the first that is none of this query."""
+        works: List[Work] = []
+        count = 0
+        for tag, alike in groupby(lines, key=tag_of):
+            those = list(alike)
+            rows = self.kinds[tag].rows(those) if tag in self.kinds else []
+            works += self.kinds[tag].works(rows) if rows else []
+            count += len(rows)
+            if len(rows) < len(those):
+                break
+        return works, count
+
+    def inserting(self) -> str:
+        """The statement that puts a row in, by the groups of its line."""
+        count = len(self.query.columns)
+        places = range(1, count + 2) if self.is_stream else (*range(2, count + 5), 1)
+        text = f"INSERT INTO {self.table} VALUES ({', '.join(f'?{place}' for place in places)})"
+        if self.is_stream or self.query.mode == "RETRACTING" or self.is_grown:
+            return text
         sets = []
         for name, way in zip(self.names, self.ways):
             old, new = f'panes."{name}"', f'excluded."{name}"'
             call = {"sum": f"{old} + {new}", "greatest": f"{self.greatest}({old}, {new})", "least": f"{self.least}({old}, {new})"}
             sets.append(f'"{name}" = {call.get(way, new)}')
-        return [f"{text} ON CONFLICT (key, begins, ends) DO UPDATE SET {', '.join(sets)}, kind = excluded.kind"]
+        return f"{text} ON CONFLICT (key, begins, ends) DO UPDATE SET {', '.join(sets)}, kind = excluded.kind"

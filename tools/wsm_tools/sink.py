@@ -2,6 +2,7 @@
 
 usage: wsm run QUERY [ROWS] | sink [--part NAME] [--keys KEYS] [--columns NAME,..] [--rows ROWS] [--from SOURCE] [--program PROGRAM] TABLE QUERY
        sink [--part NAME] [--columns NAME,..] --taken TABLE QUERY
+       wsm live DIR --from SOURCE QUERY LOG | sink [--part NAME] [--columns NAME,..] --live DIR TABLE QUERY
 
 For example: wsm run invoice.wsm rows.csv | sink --columns calls,bytes invoice.db invoice.wsm
 
@@ -28,6 +29,12 @@ QUERY is a text without its KEYS clause, as `many-keys` does whose lines these m
 were kept are passed over, and those behind them go on counting where the lines of all rows stood. --taken prints how
 many lines were taken, once these can't be lost any more: so many may be told to `keep`.
 
+With --live the lines are those of `wsm live DIR`, each with its number and a sum of all up to it: it takes the line whose
+number comes behind those of the table, passes over smaller ones, and tells DIR at most each second, by the file
+taken or taken.NAME there, how many lines are surely on the table's disk, which lets the run cut what it keeps. A gap,
+another sum, or lines of another DIR, query or source end it with status 9 and nothing written, and lines that another
+sink took meanwhile with 8.
+
 What QUERY says is asked of PROGRAM, or where that is left out of the program that the variable WSM names, of `wsm` at
 the top of the repository or of that on PATH. It ends with status 2 by its words, 3 and 6 by QUERY as `wsm` does, 7 where
 the tables can't be read or written. Where the lines end before those that were taken do, or in the middle of one, the
@@ -38,6 +45,8 @@ from __future__ import annotations
 import re
 import sys
 import zlib
+from itertools import groupby
+from operator import methodcaller
 from typing import TYPE_CHECKING, Dict, List, NamedTuple, Optional, Sequence, Tuple
 
 from . import asking, telling
@@ -45,13 +54,14 @@ from .columns import NAME, Form
 from .counts import Counts, made, refusal_of
 from .kept import Head, kept_in
 from .rows import lines_of
-from .tables import File, Rows, Server, place_of, quoted
+from .tables import File, Rows, Server, Work, place_of, quoted
 from .telling import BAD_READ, Ended, shown, was_stopped
 
 if TYPE_CHECKING:
     from argparse import Namespace
 
 TAKEN = ("query", "columns", "lines", "first", "last", "sum")
+IS_REFUSED = methodcaller("startswith", "refused,")
 QUESTION = f"SELECT part, {', '.join(TAKEN)} FROM taken"
 
 
@@ -59,6 +69,13 @@ class Counted(NamedTuple):
     """A program and the rows of a run, by which the records that WHERE selects are counted."""
     program: str
     rows: str
+
+
+class Taken(NamedTuple):
+    """The first and the last line that were taken, and the sum of all."""
+    first: str
+    last: str
+    sum: int
 
 
 class Sink:
@@ -152,41 +169,56 @@ class Sink:
 
     def take(self, lines: Sequence[bytes], before: int) -> int:
         """Takes some lines in one transaction; before is how many came before them. How many lines there are then."""
-        work: List[str] = []
-        number, total, first, last, fault = before, self.sum, self.first, self.last, None
-        for line in lines:
-            if number < self.lines:
-                number += 1
-                self.pass_over(number, line)
-                continue
-            text = self.numbered(line)
-            refusal = refusal_of(text)
-            done = [] if refusal else self.form.statements(text)
-            if done is None:
-                fault = f"line {number + 1} is none of {self.path}, and isn't taken: {shown(line)}"
-                break
-            number += 1
-            first, last, total = first if number > 1 else text, text, zlib.crc32(text.encode("latin-1") + b"\n", total)
-            work += done
-            if refusal:
-                self.counts.add(*refusal)
-        if number > max(before, self.lines):
-            state = f", first = {quoted(first)}, last = {quoted(last)}, sum = {total}"
-            self.write(number, state, [*work, *self.counts.statements()])
-            self.lines, self.sum, self.first, self.last = number, total, first, last
-        if fault:
-            raise Ended(fault)
-        return number
+        passed = lines[: max(0, self.lines - before)]
+        for number, line in enumerate(passed, before + 1):
+            self.pass_over(number, line)
+        if len(passed) < len(lines):
+            self.add(lines[len(passed):])
+        return self.lines if len(passed) < len(lines) else before + len(passed)
 
-    def write(self, number: int, state: str, work: Sequence[str]) -> None:
+    def add(self, lines: Sequence[bytes]) -> None:
+        """Takes the next lines in one transaction. One that is none of the query's ends it, and isn't taken."""
+        works: List[Work] = []
+        texts = [self.numbered(line) for line in lines]
+        count = 0
+        for is_refused, alike in groupby(texts, key=IS_REFUSED):
+            those = list(alike)
+            done, fit = ([], self.refuse(those)) if is_refused else self.form.works(those)
+            works, count = [*works, *done], count + fit
+            if fit < len(those):
+                break
+        self.commit(texts[:count], works)
+        if count < len(texts):
+            raise Ended(f"line {self.lines + 1} is none of {self.path}, and isn't taken: {shown(lines[count])}", self.place.unfit)
+
+    def refuse(self, lines: Sequence[str]) -> int:
+        """Counts lines that tell of refused rows, up to the first that doesn't, and answers how many these are."""
+        for count, refusal in enumerate(map(refusal_of, lines)):
+            if refusal is None:
+                return count
+            self.counts.add(*refusal)
+        return len(lines)
+
+    def commit(self, texts: Sequence[str], work: Sequence[Work]) -> None:
+        """Does the work of the next lines, which are counted in the same transaction."""
+        if texts:
+            total = zlib.crc32("\n".join([*texts, ""]).encode("latin-1"), self.sum)
+            number, taken = self.lines + len(texts), Taken(self.first or texts[0], texts[-1], total)
+            self.write(number, taken, [*work, *map(Work, self.counts.statements())])
+            self.lines, (self.first, self.last, self.sum) = number, taken
+
+    def write(self, number: int, taken: Taken, work: Sequence[Work]) -> None:
         """One transaction, unless another sink has taken lines: a count that isn't the one that it was is none, which the
         table doesn't take."""
-        count = f"lines = CASE WHEN lines = {self.lines} THEN {number} END"
-        self.place.run([f"UPDATE taken SET {count}{state} WHERE part = {quoted(self.part)}", *work])
+        count = "UPDATE taken SET lines = CASE WHEN lines = ?1 THEN ?2 END, first = ?3, last = ?4, sum = ?5 WHERE part = ?6"
+        self.place.run([Work(count, [(self.lines, number, *taken, self.part)]), *work])
+
+    def taken(self) -> Taken:
+        return Taken(self.first, self.last, self.sum)
 
     def begin_run(self) -> None:
         """What an end row will tell isn't known any more."""
-        self.write(self.lines, "", self.counts.begun())
+        self.write(self.lines, self.taken(), [Work(text) for text in self.counts.begun()])
 
     def end_run(self, line: bytes) -> None:
         """Takes the end row of a run."""
@@ -196,7 +228,8 @@ class Sink:
             source = ["--from", self.source] if self.source else []
             return asking.selected(self.query, self.counted.program, source, self.counted.rows, line)
 
-        self.write(self.lines, "", self.counts.ended(line.decode("latin-1"), selected_of))
+        ended = self.counts.ended(line.decode("latin-1"), selected_of)
+        self.write(self.lines, self.taken(), [Work(text) for text in ended])
 
     def numbered(self, line: bytes) -> str:
         """A line's text, with the number of a refused row among all rows."""
@@ -246,12 +279,15 @@ def words(given: Optional[Sequence[str]] = None) -> Namespace:
     for word in ("--keys", "--columns", "--rows", "--program"):
         parser.add_argument(word)
     parser.add_argument("--from", dest="source")
+    parser.add_argument("--live", metavar="DIR")
     parser.add_argument("--taken", action="store_true")
     parser.add_argument("table")
     parser.add_argument("query")
     asked = parser.parse_args(given)
-    if asked.program and not asked.rows:
+    if asked.program and not asked.rows and not asked.live:
         parser.error("--program runs over the rows that --rows names")
+    if asked.live and (asked.rows or asked.taken or asked.source):
+        parser.error("--live takes the lines of `wsm live`, for which --rows, --from and --taken say nothing")
     if asked.part and not re.fullmatch(NAME, asked.part):
         parser.error(f"{asked.part} can't name a part: a letter or _, then letters, digits and _, at most 63 in all")
     return asked
@@ -295,7 +331,12 @@ def main() -> int:
         return 0
     try:
         sink.begin_run()
-        take_all(sink, head)
+        if asked.live:
+            from .numbered import take_live
+
+            take_live(sink, asked.live)
+        else:
+            take_all(sink, head)
     finally:
         sink.place.close()
     return 0

@@ -7,7 +7,8 @@ import os
 import re
 import shutil
 import subprocess
-from typing import IO, TYPE_CHECKING, Callable, Dict, Iterator, List, Optional, Sequence, Tuple, TypeVar, Union
+from itertools import chain
+from typing import IO, TYPE_CHECKING, Callable, Dict, Iterator, List, NamedTuple, Optional, Sequence, Tuple, TypeVar, Union
 
 from .telling import BAD_WRITE, Ended
 
@@ -16,11 +17,24 @@ if TYPE_CHECKING:
 
 SEPARATOR = "\x1f"
 Rows = List[Tuple[str, ...]]
+Value = Union[int, str]
 T = TypeVar("T")
+
+
+class Work(NamedTuple):
+    """A statement, and what stands in it for `?1`, `?2`, .. each time that it is done."""
+    statement: str
+    rows: Sequence[Sequence[Value]] = ((),)
 
 
 def quoted(text: str) -> str:
     return "'" + text.replace("'", "''") + "'"
+
+
+def written(work: Work) -> Iterator[str]:
+    """The texts of a statement with its values."""
+    for row in work.rows:
+        yield re.sub(r"\?([0-9]+)", lambda found: quoted(str(row[int(found[1]) - 1])), work.statement) if row else work.statement
 
 
 def lock_of(path: str) -> IO[str]:
@@ -32,6 +46,7 @@ def lock_of(path: str) -> IO[str]:
 class File:
     """A file of SQLite. Sinks of parts take turns by a lock beside it: where many wait, SQLite lets some wait for too long."""
     WHOLE, TRUTH, GREATEST, LEAST = "INTEGER", "TEXT", "max", "min"
+    others = unfit = 1  # the statuses where another sink took lines, and where a line is none of the query's
 
     def __init__(self, path: str) -> None:
         self.shown = path
@@ -79,10 +94,14 @@ class File:
             raise
         self.base.execute("COMMIT")
 
-    def run(self, statements: Sequence[str]) -> None:
+    def run(self, works: Sequence[Work]) -> None:
         """One transaction."""
-        text = ";\n".join(statements)
-        self.guarded(lambda: self.base.executescript(f"BEGIN IMMEDIATE;\n{text};\nCOMMIT;"))
+        self.guarded(lambda: self.ran(works))
+
+    def ran(self, works: Sequence[Work]) -> None:
+        with self.transaction():
+            for statement, rows in works:
+                self.base.executemany(statement, rows)
 
     def guarded(self, work: Callable[[], T]) -> T:
         import sqlite3
@@ -92,7 +111,7 @@ class File:
             return work()
         except sqlite3.IntegrityError as why:
             if "taken.lines" in str(why):
-                raise Ended(f"{self.shown}: another sink takes lines there") from None
+                raise Ended(f"{self.shown}: another sink takes lines there", self.others) from None
             raise Ended(f"{self.shown}: {why}") from None
         except sqlite3.Error as why:
             raise Ended(f"{self.shown}: {why}", BAD_WRITE) from None
@@ -102,7 +121,7 @@ class File:
     def secure(self) -> None:
         """All that was written is on the disk: a commit with FULL is synced, and what came before it with it."""
         self.guarded(lambda: self.base.execute("PRAGMA synchronous = FULL"))
-        self.run(["UPDATE taken SET lines = lines"])
+        self.run([Work("UPDATE taken SET lines = lines")])
 
     def close(self) -> None:
         self.base.close()
@@ -111,6 +130,7 @@ class File:
 class Server:
     """A database of PostgreSQL, by its client."""
     WHOLE, TRUTH, GREATEST, LEAST = "BIGINT", "BOOLEAN", "GREATEST", "LEAST"
+    others = unfit = 1
 
     def __init__(self, url: str) -> None:
         self.shown = re.sub(r"//[^/@]*@", "//", url.split("?")[0])
@@ -140,19 +160,20 @@ class Server:
     def around(self) -> Dict[str, str]:
         return {**os.environ, "PGOPTIONS": os.environ.get("PGOPTIONS", "") + " -c client_min_messages=warning"}
 
-    def run(self, statements: Sequence[str]) -> None:
+    def run(self, works: Sequence[Work]) -> None:
+        """One transaction."""
         if self.client is None:
             pipe = subprocess.PIPE
             self.client = subprocess.Popen(self.words, stdin=pipe, stdout=pipe, stderr=pipe, text=True, env=self.around())
         assert self.client.stdin and self.client.stdout
         with contextlib.suppress(OSError):
-            text = "".join(f"{statement};\n" for statement in ("BEGIN", *statements, "COMMIT"))
+            text = "".join(f"{statement};\n" for statement in ("BEGIN", *chain.from_iterable(map(written, works)), "COMMIT"))
             self.client.stdin.write(f"{text}\\echo taken\n")
             self.client.stdin.flush()
         if self.client.stdout.readline() != "taken\n":
             told = self.client.communicate()[1].strip()
             if '"lines"' in told and "null value" in told:
-                raise Ended(f"{self.shown}: another sink takes lines there")
+                raise Ended(f"{self.shown}: another sink takes lines there", self.others)
             raise Ended(f"{self.shown}: {told or 'psql has ended'}", BAD_WRITE)
 
     def secure(self) -> None:
