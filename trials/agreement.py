@@ -33,6 +33,8 @@ class Rules:
     format: str = "json"
     has_clocks: bool = True
     has_identifiers: bool = False
+    gateways: list = field(default_factory=list)  # the clocks that lines name; without any a clock is a key
+    named: int | None = None  # how many there may be
 
     @cached_property
     def query(self):
@@ -46,8 +48,15 @@ class Rules:
         places = '[key]\nat = "key"\n[time]\nat = "at"\nform = "seconds"\n' if self.format != "rows" else ""
         clock = (f"[clock]\nagree = {self.agree}\nbound = {self.bound}\nstep = {self.step}\n"
                  f"forget = {self.forget}\nroom = {self.room}\n")
+        clock += 'at = "/via/gateway"\n' if self.gateways else ""
+        clock += f"clocks = {self.named}\n" if self.named is not None else ""
         return (f'format = "{self.format}"\n{places}' + (clock if self.has_clocks else "")
                 + ('[identifier]\nat = "id"\n' if self.has_identifiers else ""))
+
+    @property
+    def clocks(self):
+        """Those that stamp records."""
+        return self.gateways or self.keys
 
     def is_late(self, time, watermark):
         """Whether a record of this time is late at a watermark."""
@@ -74,6 +83,8 @@ class Feeding:
     identifiers: dict = field(default_factory=dict)  # of records that came, with their times
     count: int = 0
     doubles: int = 0  # records that were left out
+    names: list = field(default_factory=list)  # of the clocks that lines named
+    silent: int = 0  # records that had no voice
     told: list = field(default_factory=list)  # what is told on standard error
 
     def __post_init__(self):
@@ -113,10 +124,31 @@ class Feeding:
             self.feed("unread", self.count)
         elif not self.source.declared.fits(said):
             self.feed(said.row(), self.count)
-        elif self.is_double(said):
-            self.doubles += 1
         else:
-            self.take_record(said)
+            self.take_voiced(said, self.voice_of(said))
+
+    def take_voiced(self, record, voice):
+        """A record, by the clock that it tells its time by. One that comes again is left out."""
+        if self.is_double(record):
+            self.doubles += 1
+        elif voice is None or not self.rules.has_clocks:
+            self.go(record.time, self.count, record.row())
+        else:
+            self.stamps += 1
+            self.clocks[voice] = (self.stamps, record.time)
+            self.stamped(record.time, self.count, record.row())
+
+    def voice_of(self, record):
+        """A record's clock: its key, or one that its line names. There is none where it names none, or one more than there may be."""
+        if not self.rules.gateways:
+            return record.key
+        most = 10000 if self.rules.named is None else self.rules.named
+        if record.clock is not None and record.clock not in self.names and len(self.names) < most:
+            self.names.append(record.clock)
+        if record.clock in self.names:
+            return record.clock
+        self.silent += 1
+        return None
 
     def is_double(self, record):
         """Whether a record's identifier came before, and hasn't been forgotten. It is remembered where it didn't."""
@@ -126,14 +158,6 @@ class Feeding:
         if record.identifier is not None:
             self.identifiers[record.identifier] = record.time
         return False
-
-    def take_record(self, record):
-        if not self.rules.has_clocks:
-            self.go(record.time, self.count, record.row())
-            return
-        self.stamps += 1
-        self.clocks[record.key] = (self.stamps, record.time)
-        self.stamped(record.time, self.count, record.row())
 
     def stamped(self, time, line, row):
         """A record that told the time, with the watermark that is agreed on then."""
@@ -161,6 +185,8 @@ class Feeding:
     def end(self):
         if self.doubles:
             self.told.append(f"wsm: left out, since their identifier came before: {self.doubles}")
+        if self.silent:
+            self.told.append(f"wsm: told no time, since their line names no clock or one more than there may be: {self.silent}")
         if self.waiting:
             self.told.append(f"wsm: waited for the clocks until the log ended: {len(self.waiting)}")
         self.few()

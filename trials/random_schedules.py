@@ -17,15 +17,19 @@ STRANGE = ({"key": "zz"}, {"n": MOST_N + 1}, {"n": -1}, {"at": -5}, {"at": LATES
 
 @dataclass(frozen=True)
 class Told:
-    """A record of a log."""
+    """A record of a log, and the clock that told its time."""
     key: str
     at: int
     n: int
     id: str
     is_right: bool
+    clock: str
+    is_named: bool = True  # its line names its clock, where lines do
 
     def text(self, rules, **other):
         said = {"key": self.key, "at": self.at, "n": self.n, "id": self.id, **other}
+        if rules.gateways:
+            said["via"] = {"gateway": self.clock if self.is_named else ""}
         return json.dumps(said) if rules.format == "json" else f"r,{said['key']},{said['at']},{said['n']}"
 
 
@@ -43,7 +47,7 @@ class Log:
     alone: int = 0  # lines for which one clock sends alone
 
     def __post_init__(self):
-        self.sending = list(self.rules.keys) if self.drawn.random() < 0.95 else [self.rules.keys[0]]
+        self.sending = list(self.rules.clocks) if self.drawn.random() < 0.95 else [self.rules.clocks[0]]
         self.never_wrong = self.drawn.sample(self.sending, len(self.sending))
         self.offsets = OFFSETS if self.drawn.random() < 0.7 else [self.drawn.choice(OFFSETS)]
 
@@ -55,7 +59,8 @@ class Log:
         if chance < 0.04:
             self.lines.append(self.drawn.choice(BROKEN[self.rules.format]))
         elif chance < 0.08:
-            its = Told(self.drawn.choice(self.sending), self.now, self.number(), f"odd {self.number()}", False)
+            clock = self.drawn.choice(self.sending)
+            its = Told(self.key_of(clock), self.now, self.number(), f"odd {self.number()}", False, clock)
             self.lines.append(its.text(self.rules, **self.drawn.choice(STRANGE)))
         elif chance < 0.2 and self.told:
             self.add_double(self.drawn.choice(self.told[-self.drawn.choice([1, 3, 30]):]))
@@ -64,6 +69,10 @@ class Log:
 
     def number(self):
         return len(self.lines) + 1
+
+    def key_of(self, clock):
+        """A gateway stamps the records of any key."""
+        return self.drawn.choice(self.rules.keys) if self.rules.gateways else clock
 
     def text(self):
         return "".join(f"{line}\n" for line in self.lines)
@@ -83,42 +92,44 @@ class Log:
             self.add_of(key, (key in self.wrong or may_be_wrong) and drawn.random() < 0.1)
             self.alone = drawn.choice([5, 15]) if drawn.random() < 0.02 else 0
 
-    def add_of(self, key, is_wrong):
-        """A record of this clock, which may be its last."""
+    def add_of(self, clock, is_wrong):
+        """A record of this clock, which may be its last. One whose line doesn't name it tells no time."""
         time = self.now - self.drawn.randrange(self.rules.bound + 1)
         if self.drawn.random() < 0.05 and not is_wrong:
             time = max(0, time - 1000)
         if is_wrong:
             time = max(0, self.now + self.drawn.choice(self.offsets))
-        its = Told(key, time, self.number(), f"id {self.number()}", not is_wrong)
+        is_named = not self.rules.gateways or self.drawn.random() < 0.95
+        its = Told(self.key_of(clock), time, self.number(), f"id {self.number()}", not is_wrong, clock, is_named)
         self.told.append(its)
         self.lines.append(its.text(self.rules))
-        self.count_since(key, is_wrong)
+        if is_named:
+            self.count_since(clock, is_wrong)
         if not is_wrong:
             self.greatest = max(self.greatest, time)
             if time >= max(self.greatest - self.rules.bound, self.rules.start):
                 self.right.add(its.n)
-        self.may_die(key)
+        self.may_die(clock)
 
-    def count_since(self, key, is_wrong):
+    def count_since(self, clock, is_wrong):
         """A clock is wrong until its next record, or until it is forgotten."""
-        since = {its: count + 1 for its, count in self.wrong.items() if count + 1 < self.rules.forget and its != key}
-        self.wrong = {**since, key: 0} if is_wrong else since
+        since = {its: count + 1 for its, count in self.wrong.items() if count + 1 < self.rules.forget and its != clock}
+        self.wrong = {**since, clock: 0} if is_wrong else since
 
-    def may_die(self, key):
+    def may_die(self, clock):
         """With a wrong last word mostly where no other clock is to be wrong yet, or more than one may be."""
-        chance = 0.02 if key not in self.wrong else 0.2 if not self.never_wrong or self.rules.agree > 2 else 0.02
+        chance = 0.02 if clock not in self.wrong else 0.2 if not self.never_wrong or self.rules.agree > 2 else 0.02
         if len(self.sending) > 1 and self.drawn.random() < chance:
-            self.sending.remove(key)
-            self.never_wrong = [its for its in self.never_wrong if its != key]
+            self.sending.remove(clock)
+            self.never_wrong = [its for its in self.never_wrong if its != clock]
 
     def add_double(self, its):
         """A record once more. A wrong one may come while its clock is wrong: else it would be wrong anew."""
-        if not its.is_right and its.key not in self.wrong:
+        if not its.is_right and its.is_named and its.clock not in self.wrong:
             self.add_record()
             return
-        if not its.is_right:
-            self.wrong[its.key] = 0
+        if not its.is_right and its.is_named:
+            self.wrong[its.clock] = 0
         other = {}
         # An identifier is remembered at least as long as its record would be right.
         if self.rules.has_identifiers and its.at >= max(self.greatest - self.rules.bound, self.rules.start) and its.is_right:
@@ -127,16 +138,19 @@ class Log:
 
 
 def rules_of(drawn):
+    """Rules, with gateways that stamp the records of any key in a third of the logs of JSON."""
     bound, step, size = drawn.choice([0, 1, 10, 60, 120]), drawn.choice([1, 7, 30, 60]), drawn.choice([1, 30, 60, 600])
     form = drawn.choice(["json", "json", "rows"])
     mode = drawn.choice(["ACCUMULATING", "ACCUMULATING", "DISCARDING", "RETRACTING"])
+    gateways = [f"gw {at}" for at in range(drawn.randrange(2, 7))] if form == "json" and drawn.random() < 0.33 else []
     return Rules(
         keys=[f"k{at}" for at in range(drawn.randrange(2, 10))], agree=drawn.choice([1, 2, 2, 3, 3, 4]), bound=bound, step=step,
         forget=drawn.choice([1, 2, 5, 12, 30, 1000000, 1000000]), room=drawn.choice([0, 1, 3, 1000, 1000]),
         start=drawn.choice([0, BEGIN - 1000, BEGIN - 100, BEGIN]), skew=bound + step - 1 + drawn.choice([0, 1, 50, 1000]),
         lateness=drawn.choice([0, 0, 10, 300, 1500]), from_window=drawn.random() < 0.2, size=size, period=size,
         window=f"FIXED {size} {mode} EARLY EVERY 1 LATE EVERY 1", most=MOST_N, format=form,
-        has_identifiers=form == "json" and drawn.random() < 0.7,
+        has_identifiers=form == "json" and drawn.random() < 0.7, gateways=gateways,
+        named=len(gateways) if gateways and drawn.random() < 0.5 else None,
     )
 
 

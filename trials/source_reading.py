@@ -288,12 +288,14 @@ class Field:
 
 @dataclass
 class Record:
-    """A record: its key, or None where the text names none; its time; numbers, truths and names; its identifier, if it has one."""
+    """A record: its key, or None where the text names none; its time; numbers, truths and names; its identifier, if it has one,
+    and the clock that its line names, if it names one."""
 
     key: str | None
     time: int
     values: list
     identifier: str | None = None
+    clock: str | None = None
 
     def row(self):
         cells = [{True: "true", False: "false"}[value] if isinstance(value, bool) else str(value) for value in self.values]
@@ -333,6 +335,7 @@ class Source:
         self.format, self.longest = said["format"], said.get("longest", 1048576)
         self.separator = said.get("separator", ",")
         self.key, self.time, self.identifier = said["key"], said["time"], said.get("identifier")
+        self.clock = said.get("clock", {}).get("at")  # where a line names a clock, if one is said
         self.fields = [(declared, said.get("fields", {}).get(declared.name, {})) for declared in self.declared.fields]
         self.has_begun = False  # a byte order mark in front of the first line is no part of it
         self.header = None  # the first line of CSV, its number of cells and where its names stand; False where it is none
@@ -383,6 +386,7 @@ class Source:
             cells = csv_cells(text, self.separator)
             asked = [self.key["at"], self.time["at"], *(said.get("at", declared.name) for declared, said in self.fields)]
             asked += [self.identifier["at"]] if self.identifier else []
+            asked += [self.clock] if self.clock is not None else []
             self.header = cells is not None and all(name in cells for name in asked) and (
                 text, len(cells), {name: cells.index(name) for name in asked}
             )
@@ -405,7 +409,9 @@ class Source:
         identifier = at(self.identifier["at"]) if self.identifier else None
         if identifier is ODD or identifier is not None and not 0 < len(identifier.encode()) < 256:
             raise Unread("BadIdentifier")
-        return Record(key, time, values, identifier)
+        clock = at(self.clock) if self.clock is not None else None
+        is_named = isinstance(clock, str) and 0 < len(clock.encode()) < 256
+        return Record(key, time, values, identifier, clock if is_named else None)
 
     @staticmethod
     def text_of(scalar, missing, bad):

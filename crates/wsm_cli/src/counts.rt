@@ -3,7 +3,8 @@
 use std::io::Eprint;
 use wsm_log_run::{Heard, Listener, LogCounts};
 
-/// Tells of the clocks of a log while a run over it lasts, and of its clocks and doubles at the end.
+/// Tells of the clocks of a log while a run over it lasts, and of its clocks, doubles and records without a
+/// clock at the end.
 #[derive(Drop)]
 pub struct Teller<'r, R> {
     rt: &'r R,
@@ -21,6 +22,12 @@ impl<'r, R: Eprint> Teller<'r, R> {
         if doubles != 0 {
             let _ = eprintln!(self.rt;
                 "wsm: left out, since their identifier came before: {doubles}"
+            );
+        }
+        let silent = counts.silent;
+        if silent != 0 {
+            let _ = eprintln!(self.rt;
+                "wsm: told no time, since their line names no clock or one more than there may be: {silent}"
             );
         }
         if let Some(heard) = counts.heard {

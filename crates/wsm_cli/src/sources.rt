@@ -12,8 +12,8 @@ use wsm::End;
 use wsm_lines::Source;
 use wsm_rules::Verified;
 use wsm_source::{
-    ClockDescription, Description, FormDescription, KeyNaming, Refusal, SourceFault, SourceRefusal,
-    bind, describe,
+    ClockDescription, Description, FormDescription, KeyNaming, NamedClocks, Refusal, SourceFault,
+    SourceRefusal, bind, describe,
 };
 use wsm_turns::{Clocks, clocks_of};
 use wsm_values::{Word, Zone, ZoneFault};
@@ -55,7 +55,7 @@ fn bound_by<R: Files + AllocGlobal>(
     ensures { IfOk result (λ bound. AreClocks bound.clocks) }
 {
     let source = source_of(rt, name, text, description, verified)?;
-    let clocks = clocks_for(rt, text, description.clock, verified)?;
+    let clocks = clocks_for(rt, text, &description.clock, verified)?;
     Ok(Bound { source, clocks })
 }
 
@@ -81,7 +81,7 @@ fn source_of<R: Files + AllocGlobal>(
 fn clocks_for<R: AllocGlobal>(
     rt: &R,
     text: &str,
-    clock: Option<ClockDescription>,
+    clock: &Option<ClockDescription>,
     verified: &Verified,
 ) -> Result<Option<Clocks>, Stop>
     ensures { IfOk result AreClocks }
@@ -100,11 +100,20 @@ fn clocks_for<R: AllocGlobal>(
         said.step,
         said.forget,
         said.room,
+        most_of(&said.named),
         start,
         skew,
     ) {
         Some(clocks) => Ok(Some(clocks)),
         None => Err(refused(rt, SourceFault::Conflict, "clock.bound", text)),
+    }
+}
+
+// How many clocks there may be that lines name, where they name them.
+fn most_of(named: &Option<NamedClocks>) -> Option<u64> {
+    match named {
+        Some(named) => Some(named.most),
+        None => None,
     }
 }
 

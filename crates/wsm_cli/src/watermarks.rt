@@ -62,6 +62,7 @@ fn tell<R: Eprint>(rt: &R, totals: Totals) {
     }
     Teller::new(rt).tell(LogCounts {
         doubles: totals.counts.doubles,
+        silent: 0,
         heard: totals.heard,
     });
 }
@@ -126,7 +127,17 @@ fn clocks_for(agreement: &Agreement, verified: &Verified) -> Result<Clocks, Stop
     let forget = number_or(agreement.forget.as_ref(), "--forget", 1_000_000)?;
     let room = number_or(agreement.room.as_ref(), "--room", 1000)?;
     let clock = verified.program().header().clock;
-    match clocks_of(agree, bound, step, forget, room, clock.start, clock.skew) {
+    // The clock of a row is its key.
+    match clocks_of(
+        agree,
+        bound,
+        step,
+        forget,
+        room,
+        None,
+        clock.start,
+        clock.skew,
+    ) {
         Some(clocks) => Ok(clocks),
         None => Err(Stop::Words(WordsFault::NoClocks)),
     }

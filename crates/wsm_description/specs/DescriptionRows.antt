@@ -31,7 +31,7 @@ json_text =
     ++ codes "form = \"%d.%m.%Y %H:%M\"\n" ++ codes "zone = \"Europe/Berlin\"\n" ++ codes "fold = \"first\"\n"
     ++ codes "unit = \"milliseconds\"\n" ++ codes "[fields.amount]\n" ++ codes "at = \"/bill/amount\"\n" ++ codes "scale = 2\n"
     ++ codes "point = \",\"\n" ++ codes "group = \".\"\n" ++ codes "default = 0\n" ++ codes "[clock]\n" ++ codes "agree = 2\n"
-    ++ codes "bound = 120\n" ++ codes "[identifier]\n" ++ codes "at = \"/event/id\"\n"
+    ++ codes "bound = 120\n" ++ codes "at = \"/via/gateway\"\n" ++ codes "[identifier]\n" ++ codes "at = \"/event/id\"\n"
 
 abbrev json_says : Description
 json_says = record {
@@ -47,7 +47,14 @@ json_says = record {
     truths = None;
     words = None;
   } ∷ [];
-  clock = Some (record { agree = 2; bound = 120; step = 1; forget = 1000000; room = 1000 });
+  clock = Some (record {
+    agree = 2;
+    bound = 120;
+    step = 1;
+    forget = 1000000;
+    room = 1000;
+    named = Some (record { at = codes "/via/gateway"; most = 10000 });
+  });
   identifier = Some (codes "/event/id");
 }
 
@@ -64,7 +71,8 @@ access_text =
     codes "format = \"access\"\n" ++ codes "[key]\n" ++ codes "at = \"path\"\n"
     ++ codes "prefixes = { \"/\" = \"site\", \"/api/\" = \"api\" }\n" ++ codes "other = \"site\"\n" ++ codes "[time]\n"
     ++ codes "at = \"time\"\n" ++ codes "form = \"%d/%b/%Y:%H:%M:%S %z\"\n"
-    ++ codes "[clock]\n" ++ codes "bound = 0\n" ++ codes "step = 30\n" ++ codes "forget = 5\n" ++ codes "room = 0\n"
+    ++ codes "[clock]\n" ++ codes "bound = 0\n" ++ codes "step = 30\n" ++ codes "forget = 5\n" ++ codes "room = 0\n" ++ codes "at = \"host\"\n"
+    ++ codes "clocks = 90\n"
 
 abbrev access_says : Description
 access_says = record {
@@ -73,7 +81,7 @@ access_says = record {
   key = record { at = codes "path"; naming = Prefixes by_path (Some (codes "site")) };
   time = record { at = codes "time"; form = Stamped (codes "%d/%b/%Y:%H:%M:%S %z"); unit = Seconds };
   fields = [];
-  clock = Some (record { agree = 1; bound = 0; step = 30; forget = 5; room = 0 });
+  clock = Some (record { agree = 1; bound = 0; step = 30; forget = 5; room = 0; named = Some (record { at = codes "host"; most = 90 }) });
   identifier = None;
 }
 
@@ -126,7 +134,7 @@ rows_says = record {
   key = record { at = codes "key"; naming = Same };
   time = record { at = codes "time"; form = Epoch Seconds; unit = Seconds };
   fields = [];
-  clock = Some (record { agree = 1; bound = 60; step = 1; forget = 1000000; room = 1000 });
+  clock = Some (record { agree = 1; bound = 60; step = 1; forget = 1000000; room = 1000; named = None });
   identifier = None;
 }
 
@@ -194,6 +202,19 @@ room_above_a_million :
 unfolding toml_on_literals
 room_above_a_million = refl
 
+named_above_a_million :
+    described (codes "format = \"json\"\n" ++ rest ++ codes "clock = { bound = 1, at = \"g\", clocks = 1000001 }\n")
+    ≡ Err (Fault BadRange (codes "clock.clocks"))
+unfolding toml_on_literals
+named_above_a_million = refl
+
+-- how many clocks there may be is of no account where none is named
+clocks_without_a_place :
+    described (codes "format = \"json\"\n" ++ rest ++ codes "clock = { bound = 1, clocks = 9 }\n")
+    ≡ Err (Fault Conflict (codes "clock.clocks"))
+unfolding toml_on_literals
+clocks_without_a_place = refl
+
 scale_above_18 : described (codes "format = \"json\"\n" ++ rest ++ codes "fields.n.scale = 19\n") ≡ Err (Fault BadRange (codes "fields.n.scale"))
 unfolding toml_on_literals
 scale_above_18 = refl
@@ -248,6 +269,10 @@ key_of_rows = refl
 identifier_of_rows : described (codes "format = \"rows\"\n" ++ codes "identifier.at = \"id\"\n") ≡ Err (Fault Conflict (codes "identifier"))
 unfolding toml_on_literals
 identifier_of_rows = refl
+
+clock_of_rows : described (codes "format = \"rows\"\n" ++ codes "clock = { bound = 1, at = \"g\" }\n") ≡ Err (Fault Conflict (codes "clock.at"))
+unfolding toml_on_literals
+clock_of_rows = refl
 
 separator_of_rows : described (codes "format = \"rows\"\nseparator = \";\"\n") ≡ Err (Fault Conflict (codes "separator"))
 unfolding toml_on_literals

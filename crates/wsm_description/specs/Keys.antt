@@ -29,7 +29,7 @@ is_field_key key =
 abbrev pub is_clock_key : List ℕ → Bool
 is_clock_key key =
     bytes_eq key (codes "agree") || bytes_eq key (codes "bound") || bytes_eq key (codes "step") || bytes_eq key (codes "forget")
-    || bytes_eq key (codes "room")
+    || bytes_eq key (codes "room") || bytes_eq key (codes "at") || bytes_eq key (codes "clocks")
 
 -- whether a key means something in a section
 abbrev pub has_key : Section → List ℕ → Bool

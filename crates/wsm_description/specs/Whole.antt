@@ -19,7 +19,7 @@ description_of ms =
     on_ok (known_keys section.Whole (codes "") ms) (λ _.
     on_ok (format_of ms) (λ format.
     on_ok (longest_of ms) (λ longest.
-    on_ok (clock_of ms) (λ clock.
+    on_ok (clock_of format ms) (λ clock.
     on_ok (record_of format ms) (λ r.
     Ok (record {
       format = format;

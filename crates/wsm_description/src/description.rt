@@ -174,16 +174,25 @@ impl FieldDescriptions {
     }
 }
 
+/// Where a line names the clock of its record, and how many clocks there may be.
+#[derive(Drop)]
+pub struct NamedClocks {
+    pub at: Word,
+    pub most: u64,
+}
+
 /// How clocks make watermarks, in units of the query's clock: how many agree, how far a record may be
 /// late, how far a watermark rises at least, how many records a clock counts for, and how many records
 /// may wait that are too far ahead of the watermark.
-#[derive(Clone, Copy, Debug, PartialEq, Eq)]
+#[derive(Drop)]
 pub struct ClockDescription {
     pub agree: u64,
     pub bound: u64,
     pub step: u64,
     pub forget: u64,
     pub room: u64,
+    /// None where the clock of a record is its key.
+    pub named: Option<NamedClocks>,
 }
 
 /// What a source says. Of rows the format says where the key, the time and the fields stand, and how they

@@ -60,7 +60,13 @@ fn is_field_key(key: &str) -> bool
 fn is_clock_key(key: &str) -> bool
     ensures { result ≡ is_clock_key key.now }
 {
-    key == "agree" || key == "bound" || key == "step" || key == "forget" || key == "room"
+    key == "agree"
+        || key == "bound"
+        || key == "step"
+        || key == "forget"
+        || key == "room"
+        || key == "at"
+        || key == "clocks"
 }
 
 impl Section {

@@ -9,7 +9,7 @@ pub use describing::describe;
 pub use description::{
     ClockDescription, DecimalDescription, DefaultValue, Description, Entries, Entry,
     FieldDescription, FieldDescriptions, FormDescription, Format, KeyDescription, KeyNaming,
-    TimeDescription, Truths,
+    NamedClocks, TimeDescription, Truths,
 };
 pub use place::Position;
 pub use refusal::{Refusal, SourceFault, dotted, refuse};

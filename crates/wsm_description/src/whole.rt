@@ -21,7 +21,7 @@ pub fn description_of(alloc: Global, table: &Table) -> Result<Description, Refus
     require_known(alloc, Section::Whole, "", table)?;
     let format = format_of(alloc, table)?;
     let longest = longest_of(alloc, table)?;
-    let clock = clock_of(alloc, table)?;
+    let clock = clock_of(alloc, format, table)?;
     let record = record_of(alloc, format, table)?;
     Ok(Description {
         format,

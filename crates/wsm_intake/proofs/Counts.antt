@@ -13,3 +13,6 @@ one_more n = omega arith
 
 pub no_more : (a n : ℕ) → a ≡ counter n → a ≡ counter (n + 0)
 no_more a n h = omega arith
+
+pub some_more : (a n m : ℕ) → a ≡ counter n → counter (a + m) ≡ counter (n + m)
+some_more a n m h = omega arith

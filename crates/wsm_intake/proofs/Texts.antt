@@ -21,24 +21,24 @@ Stands-start s clocks p known t fits = record { fits = fits; text = Appends-star
 
 module _ (s : Source) (clocks : Option Clocks) (p : Program) (read : List (List ℕ)) (line : List ℕ) (t t' : Intake) (turned : Turned s clocks p t' (reverse read) line) where
   -- the bytes with those of one turn more
-  next_text : turns_text (query_of p) clocks (read_by s (query_of p) read) ++ t'.told.lines.items ≡ turns_text (query_of p) clocks (read_by s (query_of p) (read ++ line ∷ []))
+  next_text : turns_text (query_of p) clocks (read_by s clocks (query_of p) read) ++ t'.told.lines.items ≡ turns_text (query_of p) clocks (read_by s clocks (query_of p) (read ++ line ∷ []))
   next_text =
-      ap (λ (l : List ℕ). turns_text (query_of p) clocks (read_by s (query_of p) read) ++ l) turned.text
-      ∙ ap (λ (ls : List (List ℕ)). turns_text (query_of p) clocks (said s p.header.schema ls)) (sym (newest_first read line))
+      ap (λ (l : List ℕ). turns_text (query_of p) clocks (read_by s clocks (query_of p) read) ++ l) turned.text
+      ∙ ap (λ (ls : List (List ℕ)). turns_text (query_of p) clocks (said s clocks p.header.schema ls)) (sym (newest_first read line))
 
   -- one turn more, whose bytes are taken
   pub Stands-next : (old now new : Option (List ℕ)) → Stands s clocks p read old now t → Appends now new t'.told.lines.items → Stands s clocks p (read ++ line ∷ []) old new t'
   Stands-next old now new stands taken = record {
     fits = subst (Fits s clocks p t') (sym (newest_first read line)) turned.fits;
-    text = subst (Appends old new) next_text (Appends-join old now new (turns_text (query_of p) clocks (read_by s (query_of p) read)) t'.told.lines.items stands.text taken);
+    text = subst (Appends old new) next_text (Appends-join old now new (turns_text (query_of p) clocks (read_by s clocks (query_of p) read)) t'.told.lines.items stands.text taken);
   }
 
   -- one turn more, of whose bytes not all were taken
-  pub TakesPart-next : (old now new : Option (List ℕ)) → Stands s clocks p read old now t → TakesPart now new t'.told.lines.items → TakesPart old new (turns_text (query_of p) clocks (read_by s (query_of p) (read ++ line ∷ [])))
+  pub TakesPart-next : (old now new : Option (List ℕ)) → Stands s clocks p read old now t → TakesPart now new t'.told.lines.items → TakesPart old new (turns_text (query_of p) clocks (read_by s clocks (query_of p) (read ++ line ∷ [])))
   TakesPart-next old now new stands part =
-      subst (TakesPart old new) next_text (TakesPart-last old now new (turns_text (query_of p) clocks (read_by s (query_of p) read)) t'.told.lines.items stands.text part)
+      subst (TakesPart old new) next_text (TakesPart-last old now new (turns_text (query_of p) clocks (read_by s clocks (query_of p) read)) t'.told.lines.items stands.text part)
 
 -- the bytes with those behind all turns
 pub last_text : (s : Source) (clocks : Option Clocks) (p : Program) (read : List (List ℕ)) (t : Intake) (end : LogTotals) → Ends s clocks p t (reverse read) end
-    → turns_text (query_of p) clocks (read_by s (query_of p) read) ++ t.told.lines.items ≡ text (query_of p) clocks (read_by s (query_of p) read)
-last_text s clocks p read t end ends = ap (λ (l : List ℕ). turns_text (query_of p) clocks (read_by s (query_of p) read) ++ l) ends.text
+    → turns_text (query_of p) clocks (read_by s clocks (query_of p) read) ++ t.told.lines.items ≡ text (query_of p) clocks (read_by s clocks (query_of p) read)
+last_text s clocks p read t end ends = ap (λ (l : List ℕ). turns_text (query_of p) clocks (read_by s clocks (query_of p) read) ++ l) ends.text

@@ -1,6 +1,6 @@
 -- What the lines of a log come to by a source and a query: the events that the query is fed, and the bytes that are written.
 -- A history of lines has the newest first. What goes on at each is said by wsm_turns/specs/Turns.antt.
-use Rattle.std.specs.Prelude.{ℕ, ◌+◌, List, [], ◌∷◌, ◌++◌, length, map, Option, Ok, Err, codes}
+use Rattle.std.specs.Prelude.{ℕ, ◌+◌, List, [], ◌∷◌, ◌++◌, length, map, Option, Result, Ok, Err, codes}
 use Rattle.std.specs.Fmt.{decimal}
 use Rattle.wsm_record.specs.Event.{Event}
 use Rattle.wsm_record.specs.Schema.{Declared}
@@ -11,24 +11,40 @@ use Rattle.wsm_semantics.specs.Firings.{firings_so_far}
 use Rattle.wsm_semantics.specs.Relation.{turn_rows}
 use Rattle.wsm_semantics.specs.Lines.{Line, Out, End, refusal_lines}
 use Rattle.wsm_semantics.specs.Text.{line_text, lines_text}
-use Rattle.wsm_lines.specs.Said.{identifier_of, said_of}
+use Rattle.wsm_lines.specs.Said.{clock_of, identifier_of, said_of}
 use Rattle.wsm_lines.specs.Fault.{fault_word}
 use Rattle.wsm_lines.specs.declared.fault.LineFault.{LineFault}
 use Rattle.wsm_lines.specs.declared.source.Source.{Source}
 use Rattle.wsm_turns.specs.declared.clocks.Clocks.{Clocks}
+use Rattle.wsm_turns.specs.declared.voice.Voice.TheVariants.{Key}
+use Rattle.wsm_turns.specs.Clocks.{named_in}
+use Rattle.wsm_turns.specs.Voices.{Voiced, voiced_at}
 use Rattle.wsm_turns.specs.Numbered.{Numbered}
 use Rattle.wsm_turns.specs.Heard.{left_out}
 use Rattle.wsm_turns.specs.Turns as turns
-use Rattle.wsm_turns.specs.Turns.{Kept, Setting, Turn, at_end, fed_with, kept, setting_of, spoken, turn_of}
+use Rattle.wsm_turns.specs.Turns.{Kept, Setting, Turn, at_end, fed_with, kept, setting_of, spoken_by, stamp_of, turn_of}
 
 -- ---- what lines say
 
--- what a line says: an event with its identifier, if it has one, or none
+-- what a line says: an event with its identifier, if it has one, by a voice, or none
 abbrev pub Said : Type 0
 Said = turns.Said LineFault
 
-abbrev pub said_at : Source → Declared → List (List ℕ) → List ℕ → Said
-said_at s d before line = spoken (identifier_of s before line) (said_of s d before line)
+-- whose clock tells the time of the event that a line says, which names a clock or none, where these have spoken
+abbrev pub voiced_in : Option Clocks → Declared → List (List ℕ) → Option (List ℕ) → Result Event LineFault → Voiced
+voiced_in clocks d names name (Ok e) = voiced_at (stamp_of d e) (named_in clocks) names name
+voiced_in clocks d names name (Err why) = record { voice = Key; names = names }
+
+-- the names of the clocks that have spoken, the first first
+abbrev pub names_of : Source → Option Clocks → Declared → List (List ℕ) → List (List ℕ)
+names_of s clocks d [] = []
+names_of s clocks d (line ∷ before) = (voiced_in clocks d (names_of s clocks d before) (clock_of s before line) (said_of s d before line)).names
+
+abbrev pub voiced_line : Source → Option Clocks → Declared → List (List ℕ) → List ℕ → Voiced
+voiced_line s clocks d before line = voiced_in clocks d (names_of s clocks d before) (clock_of s before line) (said_of s d before line)
+
+abbrev pub said_at : Source → Option Clocks → Declared → List (List ℕ) → List ℕ → Said
+said_at s clocks d before line = spoken_by (identifier_of s before line) (voiced_line s clocks d before line).voice (said_of s d before line)
 
 -- the turn of the line of a number
 abbrev pub turn_at : Setting → Kept → ℕ → Said → Turn
@@ -39,9 +55,9 @@ abbrev pub left_at : Setting → Kept → Said → ℕ
 left_at w k x = left_out w k x
 
 -- what lines say
-abbrev pub said : Source → Declared → List (List ℕ) → List Said
-said s d [] = []
-said s d (line ∷ before) = said_at s d before line ∷ said s d before
+abbrev pub said : Source → Option Clocks → Declared → List (List ℕ) → List Said
+said s clocks d [] = []
+said s clocks d (line ∷ before) = said_at s clocks d before line ∷ said s clocks d before
 
 abbrev pub fault_count : List Said → ℕ
 fault_count [] = 0

@@ -18,29 +18,29 @@ use Rattle.wsm_intake.specs.Intake.{Said, said, end_line, text, turns_text}
 use Rattle.wsm_intake.specs.Turns.{Fits, line_of}
 
 -- what lines say, the newest first
-abbrev pub read_by : Source → Query → List (List ℕ) → List Said
-read_by s q lines = said s q.declared (reverse lines)
+abbrev pub read_by : Source → Option Clocks → Query → List (List ℕ) → List Said
+read_by s clocks q lines = said s clocks q.declared (reverse lines)
 
 -- a run that ends well: it read all lines, and wrote what the source and the query mean for them
 pub record Completes (known : Option (List ℕ)) (s : Source) (clocks : Option Clocks) (q : Query) (lines : List (List ℕ)) (old new : Option (List ℕ)) (totals : Totals) : Type 0 where
   pub all : AreAll s.longest known lines
-  pub text : Appends old new (text q clocks (read_by s q lines))
-  pub numbers : line_of totals ≡ end_line q clocks (read_by s q lines)
+  pub text : Appends old new (text q clocks (read_by s clocks q lines))
+  pub numbers : line_of totals ≡ end_line q clocks (read_by s clocks q lines)
 
 -- a run that ends between two turns: it wrote the turns of the first lines, each whole
 pub record BreaksOff (known : Option (List ℕ)) (s : Source) (clocks : Option Clocks) (q : Query) (lines : List (List ℕ)) (old new : Option (List ℕ)) : Type 0 where
   pub first : AreFirst s.longest known lines
-  pub text : Appends old new (turns_text q clocks (read_by s q lines))
+  pub text : Appends old new (turns_text q clocks (read_by s clocks q lines))
 
 -- a run that ends within a turn: it wrote a beginning of the turns of the lines that it read
 pub record BreaksWithin (known : Option (List ℕ)) (s : Source) (clocks : Option Clocks) (q : Query) (lines : List (List ℕ)) (old new : Option (List ℕ)) : Type 0 where
   pub first : AreFirst s.longest known lines
-  pub part : TakesPart old new (turns_text q clocks (read_by s q lines))
+  pub part : TakesPart old new (turns_text q clocks (read_by s clocks q lines))
 
 -- a run that ends behind its turns: it read all lines, and wrote a beginning of their text
 pub record BreaksLast (known : Option (List ℕ)) (s : Source) (clocks : Option Clocks) (q : Query) (lines : List (List ℕ)) (old new : Option (List ℕ)) : Type 0 where
   pub all : AreAll s.longest known lines
-  pub part : TakesPart old new (text q clocks (read_by s q lines))
+  pub part : TakesPart old new (text q clocks (read_by s clocks q lines))
 
 -- how a run ends early: want of memory and of lines comes between turns, a failed device anywhere
 abbrev pub EndsEarly : Option (List ℕ) → Source → Option Clocks → Query → List (List ℕ) → Option (List ℕ) → Option (List ℕ) → LogEnd → Type 0
@@ -51,7 +51,7 @@ EndsEarly known s clocks q lines old new ends.WriteFailed = BreaksWithin known s
 -- the turns of these lines were taken, and their bytes written
 pub record Stands (s : Source) (clocks : Option Clocks) (p : Program) (lines : List (List ℕ)) (old now : Option (List ℕ)) (t : Intake) : Type 0 where
   pub fits : Fits s clocks p t (reverse lines)
-  pub text : Appends old now (turns_text (query_of p) clocks (read_by s (query_of p) lines))
+  pub text : Appends old now (turns_text (query_of p) clocks (read_by s clocks (query_of p) lines))
 
 -- all lines were read, and what the source and the query mean for them was written
 abbrev pub LogWritten : Option (List ℕ) → Source → Option Clocks → Option (List ℕ) → Option (List ℕ) → Query → Totals → Type 0
@@ -59,7 +59,7 @@ LogWritten known s clocks old new q totals = (lines : List (List ℕ)) × Comple
 
 -- all lines were read, and this is what is counted of them
 abbrev pub LogCounted : Option (List ℕ) → Source → Option Clocks → Query → LogCounts → Type 0
-LogCounted known s clocks q counts = (lines : List (List ℕ)) × AreAll s.longest known lines × (counts ≡ counts_of q clocks (read_by s q lines))
+LogCounted known s clocks q counts = (lines : List (List ℕ)) × AreAll s.longest known lines × (counts ≡ counts_of q clocks (read_by s clocks q lines))
 
 -- a beginning of that was written
 abbrev pub LogBroken : Option (List ℕ) → Source → Option Clocks → Option (List ℕ) → Option (List ℕ) → Query → LogEnd → Type 0

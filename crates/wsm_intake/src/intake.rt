@@ -16,17 +16,20 @@ use wsm_engine::Totals;
 use wsm_lines::{LineFault, LineReader, LineRefusal, Source};
 use wsm_rules::Verified;
 use wsm_turns::{
-    Clocks, Identifiers, Listener, Stamp, Taker, Waiting, clocks_heard, open_clocks, stamp_of,
-    take_record, take_rest, tell_heard,
+    ClockNames, Clocks, Identifiers, Listener, Stamp, Taker, Voice, Waiting, clocks_heard,
+    count_in, named_in, open_clocks, open_names, silent_in, stamp_by, stamp_of, take_record,
+    take_rest, tell_heard, voice_of,
 };
 
-/// An engine and what stands between it and a log: the reader of lines by a source, its clocks with the records that wait, and the
-/// identifiers of records that came.
+/// An engine and what stands between it and a log: the reader of lines by a source, its clocks with their names and the records that
+/// wait, and the identifiers of records that came.
 /// It has the bytes that are written for the last line.
 pub struct Intake {
     told: Told,
     reader: LineReader,
     waiting: Option<Waiting>,
+    // Those of clocks, where lines name them.
+    names: Option<ClockNames>,
     identifiers: Identifiers,
     // The lines so far.
     taken: u64,
@@ -34,6 +37,8 @@ pub struct Intake {
     faults: u64,
     // The records that were left out.
     doubles: u64,
+    // Those that had no voice.
+    silent: u64,
 }
 
 impl Drop for Intake {
@@ -42,16 +47,18 @@ impl Drop for Intake {
             told: _,
             reader: _,
             waiting: _,
+            names: _,
             identifiers: _,
             taken: _,
             faults: _,
             doubles: _,
+            silent: _,
         } = self;
     }
 }
 
 impl Intake {
-    ghost use Rattle.std.specs.Prelude.{◌≡◌, ◌++◌, ◌+◌, ◌<◌, ◌^◌, ◌∷◌, [], true, false, List, ℕ, Option, Some, Ok, IfOk, OnErr, OnOk, length};
+    ghost use Rattle.std.specs.Prelude.{◌≡◌, ◌++◌, ◌+◌, ◌<◌, ◌^◌, ◌∷◌, [], true, false, List, ℕ, Option, Some, Ok, IfOk, IfSome, OnErr, OnOk, length};
     ghost use Rattle.std.specs.Io.KnownBytes.{Appends};
     ghost use Rattle.wsm_record.specs.Event.{Event as AnyEvent};
     ghost use Rattle.wsm_admission.specs.Admission.{counter};
@@ -59,14 +66,17 @@ impl Intake {
     ghost use Rattle.wsm_program.specs.Program.{Program};
     ghost use Rattle.wsm_machine.specs.Meaning.{query_of};
     ghost use Rattle.wsm_lines.specs.declared.source.Source.{Source as AnySource};
+    ghost use Rattle.wsm_lines.specs.Reader.{clock_read, event_read};
     ghost use Rattle.wsm_watermarks.specs.declared.stamp.Stamp.{Stamp as AnyStamp};
     ghost use Rattle.wsm_turns.specs.declared.clocks.Clocks.{Clocks as AnyClocks};
-    ghost use Rattle.wsm_turns.specs.Clocks.{AreClocks};
+    ghost use Rattle.wsm_turns.specs.Clocks.{AreClocks, count_in, named_in};
+    ghost use Rattle.wsm_turns.specs.Named.{Knows};
+    ghost use Rattle.wsm_turns.specs.Voices.{stamp_by, voiced};
     ghost use Rattle.wsm_turns.specs.Heard.{left_by};
     ghost use Rattle.wsm_turns.specs.Turns.{Kept, turn_by};
-    ghost use Rattle.wsm_intake.specs.Intake.{Said, fault_count, fault_text, left_at, line_behind, turn_at};
+    ghost use Rattle.wsm_intake.specs.Intake.{Said, fault_count, fault_text, left_at, line_behind, turn_at, voiced_in};
     ghost use Rattle.wsm_intake.specs.Tells.{Serves};
-    ghost use Rattle.wsm_intake.specs.Turns.{Ends, Fits, Goes, Holds, Turned, line_of, setting_by, spoken_read};
+    ghost use Rattle.wsm_intake.specs.Turns.{Ends, Fits, Goes, Holds, Speaks, Turned, line_of, setting_by, spoken_read};
 
     /// Before the first line, with these clocks, where there are any.
     pub fn open(
@@ -80,15 +90,19 @@ impl Intake {
     {
         let identifiers = identifiers_of(alloc, &verified);
         let told = Told::open(alloc, verified)?;
-        let waiting = open_clocks(alloc, clocks, told.schema().key_count())?;
+        let count = count_in(clocks, told.schema().key_count());
+        let waiting = open_clocks(alloc, clocks, count)?;
+        let names = open_names(alloc, named_in(clocks))?;
         Ok(Intake {
             told,
             reader: LineReader::new(alloc, source),
             waiting,
+            names,
             identifiers,
             taken: 0,
             faults: 0,
             doubles: 0,
+            silent: 0,
         })
     }
 
@@ -115,8 +129,10 @@ impl Intake {
 
     // The turn of the event that was read.
     fn serve(&mut self) -> Result<(), AllocError>
-        ensures { (clocks : Option AnyClocks) (p : Program) (k : Kept) → Holds clocks p self.old k → length k.stamps < self.old.taken →
-            OnOk result (Goes clocks p self.old self.new k (turn_at (setting_by clocks p) k self.old.taken (Ok (spoken_read self.old.reader))) (left_at (setting_by clocks p) k (Ok (spoken_read self.old.reader)))) }
+        ensures { (clocks : Option AnyClocks) (p : Program) (k : Kept) (names : List (List ℕ)) → Holds clocks p self.old k → Knows (named_in clocks) self.old.names names → length k.stamps < self.old.taken →
+            let v = voiced_in clocks p.header.schema names (clock_read self.old.reader) (Ok (event_read self.old.reader)) in
+            let x = spoken_read self.old.reader v.voice in
+            OnOk result (Speaks clocks p self.old self.new k v (turn_at (setting_by clocks p) k self.old.taken (Ok x)) (left_at (setting_by clocks p) k (Ok x))) }
     {
         match stamp_of(self.told.schema(), self.reader.event()) {
             Some(stamp) => self.serve_stamped(stamp),
@@ -124,11 +140,26 @@ impl Intake {
         }
     }
 
-    // The turn of the event that was read, with its stamp. A double is left out.
+    // The turn of the event that was read, with its stamp by its key.
     fn serve_stamped(&mut self, stamp: Stamp) -> Result<(), AllocError>
         requires { stamp.time < 2 ^ 63 }
-        ensures { (clocks : Option AnyClocks) (p : Program) (k : Kept) → Holds clocks p self.old k → length k.stamps < self.old.taken → stamp.clock < length p.header.schema.keys →
-            OnOk result (Goes clocks p self.old self.new k (turn_by (setting_by clocks p) k self.old.taken (Some stamp) (spoken_read self.old.reader)) (left_by (Some stamp) (spoken_read self.old.reader).identifier k.memory)) }
+        ensures { (clocks : Option AnyClocks) (p : Program) (k : Kept) (names : List (List ℕ)) → Holds clocks p self.old k → Knows (named_in clocks) self.old.names names → length k.stamps < self.old.taken → stamp.clock < length p.header.schema.keys →
+            let v = voiced (named_in clocks) names (clock_read self.old.reader) in
+            let x = spoken_read self.old.reader v.voice in
+            OnOk result (Speaks clocks p self.old self.new k v (turn_by (setting_by clocks p) k self.old.taken (Some stamp) x) (left_by (Some stamp) x.identifier k.memory)) }
+    {
+        let voice = voice_of(&mut self.names, self.reader.clock())?;
+        self.silent = self.silent.saturating_add(silent_in(voice));
+        self.serve_voiced(stamp, voice)
+    }
+
+    // The same by its voice. A double is left out; a record without a voice goes on at once.
+    fn serve_voiced(&mut self, stamp: Stamp, voice: Voice) -> Result<(), AllocError>
+        requires { stamp.time < 2 ^ 63 }
+        ensures { (clocks : Option AnyClocks) (p : Program) (k : Kept) → Holds clocks p self.old k → length k.stamps < self.old.taken →
+            IfSome (stamp_by voice stamp) (λ s. s.clock < count_in clocks (length p.header.schema.keys)) →
+            let x = spoken_read self.old.reader voice in
+            OnOk result (Goes clocks p self.old self.new k (turn_by (setting_by clocks p) k self.old.taken (Some stamp) x) (left_by (Some stamp) x.identifier k.memory)) }
     {
         let is_new = passes(
             self.reader.identifier(),
@@ -140,13 +171,16 @@ impl Intake {
             self.doubles = self.doubles.saturating_add(1);
             return Ok(());
         }
-        take_record(
-            &mut self.waiting,
-            stamp,
-            self.taken,
-            self.reader.event(),
-            &mut self.told,
-        )
+        match stamp_by(voice, stamp) {
+            Some(stamp) => take_record(
+                &mut self.waiting,
+                stamp,
+                self.taken,
+                self.reader.event(),
+                &mut self.told,
+            ),
+            None => self.told.take(self.taken, self.reader.event()),
+        }
     }
 
     // The turn of a line that is no event.
@@ -167,6 +201,7 @@ impl Intake {
         self.told.lines.clear();
         let counts = LogCounts {
             doubles: self.doubles,
+            silent: self.silent,
             heard: clocks_heard(&self.waiting),
         };
         take_rest(&self.waiting, &mut self.told)?;

@@ -8,6 +8,8 @@ use wsm_turns::Heard;
 pub struct LogCounts {
     /// How many records were left out, since their identifier had come before.
     pub doubles: u64,
+    /// How many records that could tell a time had no voice: their lines name no clock, or one more than there may be.
+    pub silent: u64,
     /// What the clocks came to behind the last line, where there are any. What waited then goes on.
     pub heard: Option<Heard>,
 }

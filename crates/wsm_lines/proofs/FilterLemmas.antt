@@ -2,8 +2,8 @@
 use Rattle.std.proofs.Common.{◌≡◌, ◌∙◌, ℕ, ◌<◌, List, [], ◌∷◌, length, Bool, true, false, get_or, set, refl, sym, ap, inl, inr, eq-eqb}
 use Rattle.std.proofs.lemmas.Bool.{and_parts, cases_Bool, eqb-true, eqb-false}
 use Rattle.std.proofs.lemmas.List.{get_or-set_same, get_or-set_other}
-use Rattle.std.specs.Prelude.{◌==◌, ◌||◌, ◌&&◌}
-use Rattle.wsm_lines.specs.Members.{Widens, bucket_of, passes, passes_fields, passes_first, passes_place}
+use Rattle.std.specs.Prelude.{◌==◌, ◌||◌, ◌&&◌, Option, Some, None}
+use Rattle.wsm_lines.specs.Members.{Widens, bucket_of, passes, passes_fields, passes_first, passes_maybe, passes_place}
 use Rattle.wsm_lines.specs.declared.source.Field.{Field}
 use Rattle.wsm_lines.specs.declared.source.Place.{Place}
 use Rattle.wsm_lines.specs.declared.source.Place.TheVariants as place
@@ -51,6 +51,10 @@ module _ (old new : List Bool) (wider : Widens old new) where
   pub wider_place : (p : Place) → passes_place old p ≡ true → passes_place new p ≡ true
   wider_place (place.Path names) h = wider_first names h
   wider_place (place.Column k) h = refl
+
+  pub wider_maybe : (p : Option Place) → passes_maybe old p ≡ true → passes_maybe new p ≡ true
+  wider_maybe None h = refl
+  wider_maybe (Some p) h = wider_place p h
 
   pub wider_fields : (fs : List Field) → passes_fields old fs ≡ true → passes_fields new fs ≡ true
   wider_fields [] h = refl

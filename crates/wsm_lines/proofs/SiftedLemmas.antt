@@ -9,11 +9,12 @@ use Rattle.json.specs.Json.{Json, null, boolean, number, string, array, object, 
 use Rattle.wsm_record.specs.declared.event.Value.{Value}
 use Rattle.wsm_record.specs.Event.{Record}
 use Rattle.wsm_record.specs.Schema.{Declared}
+use Rattle.wsm_lines.specs.ClockName.{clock_at, clock_in}
 use Rattle.wsm_lines.specs.Event.{event_in, field_in, key_named, text_of, time_in, values_from}
 use Rattle.wsm_lines.specs.Fault.{on_ok, or_fault}
 use Rattle.wsm_lines.specs.Identifier.{identifier_at, identifier_in}
 use Rattle.wsm_lines.specs.Members.{PassesSource, passes, passes_fields, passes_first, passes_maybe, passes_place, passing, sifted}
-use Rattle.wsm_lines.specs.Said.{event_by, identifier_by, taken_json}
+use Rattle.wsm_lines.specs.Said.{clock_by, event_by, identifier_by, taken_json}
 use Rattle.wsm_lines.specs.Scalar.{json, found_at, of_found, of_json, scalar_at}
 use Rattle.wsm_lines.specs.declared.fault.LineFault.{LineFault}
 use Rattle.wsm_lines.specs.declared.fault.LineFault.TheVariants.{NoKey, BadKey, NoTime, BadTime, NotJson}
@@ -79,6 +80,10 @@ module _ (b : List Bool) where
   identifier_sifted None j h = refl
   identifier_sifted (Some p) j h = ap identifier_in (scalar_sifted p j h)
 
+  clock_sifted : (p : Option Place) (j : Json) → passes_maybe b p ≡ true → clock_at p (json (sifted b j)) ≡ clock_at p (json j)
+  clock_sifted None j h = refl
+  clock_sifted (Some p) j h = ap clock_in (scalar_sifted p j h)
+
   module _ (s : Source) (h : PassesSource b s) where
     event_sifted : (d : Declared) (j : Json) → event_in s d (json (sifted b j)) ≡ event_in s d (json j)
     event_sifted d j =
@@ -102,3 +107,11 @@ module _ (b : List Bool) where
         by : (o : Option Json) → option_map (sifted b) o ≡ Some v → identifier_by s (or_fault NotJson (option_map json o)) ≡ identifier_at s.identifier (json v)
         by None e = absurd (none_is v e)
         by (Some j) e = sym (identifier_sifted s.identifier j h.identifier) ∙ ap (λ o. identifier_by s (or_fault NotJson (option_map json o))) e
+
+    pub clock_by-sifted : (text : Result (List ℕ) LineFault) (t : List ℕ) (v : Json) → text ≡ Ok t → option_map (sifted b) (document t) ≡ Some v
+        → clock_by s (on_ok text taken_json) ≡ Ok (clock_at s.clock (json v))
+    clock_by-sifted text t v is seen = ap (λ x. clock_by s (on_ok x taken_json)) is ∙ by (document t) seen
+      where
+        by : (o : Option Json) → option_map (sifted b) o ≡ Some v → clock_by s (or_fault NotJson (option_map json o)) ≡ Ok (clock_at s.clock (json v))
+        by None e = absurd (none_is v e)
+        by (Some j) e = ap Ok (sym (clock_sifted s.clock j h.clock)) ∙ ap (λ o. clock_by s (or_fault NotJson (option_map json o))) e

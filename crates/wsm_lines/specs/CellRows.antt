@@ -36,6 +36,7 @@ access = record {
   time = record { at = Column 3; form = Epoch Seconds; unit = Seconds };
   fields = record { at = Column 6; kind = kind.Whole; default = None } ∷ [];
   identifier = None;
+  clock = None;
 }
 
 good_access : said_of access shop [] (codes "h - - [60] \"GET /api/x HTTP/1.0\" 200 23 \"-\" \"agent\"") ≡ Ok (Record (Some 1) (pos 60) (values.Int (pos 23) ∷ []))
@@ -74,6 +75,7 @@ table = record {
   time = record { at = Column 1; form = Epoch Seconds; unit = Seconds };
   fields = record { at = Column 2; kind = kind.Decimal (record { point = 44; group = Some 46; scale = 2 }); default = None } ∷ [];
   identifier = None;
+  clock = None;
 }
 
 abbrev header : List ℕ

@@ -24,7 +24,7 @@ abbrev pub identifier_at : Option Place → Taken → Result (Option (List ℕ))
 identifier_at None taken = Ok None
 identifier_at (Some place) taken = identifier_in (scalar_at taken place)
 
--- the identifier that these bytes keep, which is never empty: no byte keeps none
+-- the identifier that these bytes keep, or the name of a clock, which is never empty: no byte keeps none
 abbrev pub identifier_held : List ℕ → Option (List ℕ)
 identifier_held [] = None
 identifier_held (byte ∷ bytes) = Some (byte ∷ bytes)

@@ -30,6 +30,7 @@ source = record {
   time = record { at = Path (codes "t" ∷ []); form = Epoch Seconds; unit = Seconds };
   fields = [];
   identifier = Some (Path (codes "of" ∷ codes "id" ∷ []));
+  clock = None;
 }
 
 a_text : identifier_of source [] (codes "{\"k\":\"a\",\"t\":60,\"of\":{\"id\":\"x-\\u00317\"}}") ≡ Some (codes "x-17")
@@ -96,6 +97,7 @@ table = record {
   time = record { at = Column 1; form = Epoch Seconds; unit = Seconds };
   fields = [];
   identifier = Some (Column 2);
+  clock = None;
 }
 
 a_cell : identifier_of table (codes "order,when,shop" ∷ []) (codes "\"a,\"\"1\",60,a") ≡ Some (codes "a,\"1")
@@ -120,6 +122,7 @@ access = record {
   time = record { at = Column 3; form = Epoch Seconds; unit = Seconds };
   fields = [];
   identifier = Some (Column 1);
+  clock = None;
 }
 
 an_ident : identifier_of access [] (codes "h c0ffee a [60] \"GET / HTTP/1.0\" 200 23 \"-\" \"agent\"") ≡ Some (codes "c0ffee")

@@ -48,6 +48,7 @@ source = record {
       ∷ record { at = Path (codes "plan" ∷ []); kind = kind.Enum (entry_with (codes "frei") 0 ∷ entry_with (codes "team") 1 ∷ []); default = None }
       ∷ [];
   identifier = None;
+  clock = None;
 }
 
 -- the rest of a good line

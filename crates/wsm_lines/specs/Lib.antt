@@ -5,6 +5,7 @@ pub mod Scalar
 pub mod Heading
 pub mod Seen
 pub mod Identifier
+pub mod ClockName
 pub mod Event
 pub mod InPlace
 pub mod Said
@@ -14,4 +15,5 @@ pub mod Reader
 pub mod JsonRows
 pub mod CellRows
 pub mod IdentifierRows
+pub mod ClockNameRows
 pub mod RowRows

@@ -57,3 +57,4 @@ pub record PassesSource (buckets : List Bool) (s : Source) : Type 0 where
   pub time : passes_place buckets s.time.at ≡ true
   pub fields : passes_fields buckets s.fields ≡ true
   pub identifier : passes_maybe buckets s.identifier ≡ true
+  pub clock : passes_maybe buckets s.clock ≡ true

@@ -15,6 +15,10 @@ event_read r = event_of r.reading.event
 abbrev pub identifier_read : LineReader → Option (List ℕ)
 identifier_read r = identifier_held r.reading.identifier.items
 
+-- the clock that was named last
+abbrev pub clock_read : LineReader → Option (List ℕ)
+clock_read r = identifier_held r.reading.clock.items
+
 -- a reader by a source that read these lines, the newest first
 pub record Follows (s : Source) (before : List (List ℕ)) (r : LineReader) : Type 0 where
   pub source : r.source ≡ s

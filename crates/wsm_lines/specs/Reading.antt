@@ -6,7 +6,7 @@ use Rattle.wsm_lines.specs.declared.fault.LineFault.{LineFault}
 use Rattle.wsm_lines.specs.declared.reading.Reading.{Reading}
 use Rattle.wsm_lines.specs.declared.source.Source.{Source}
 use Rattle.wsm_lines.specs.Identifier.{identifier_held}
-use Rattle.wsm_lines.specs.Said.{event_by, identifier_by}
+use Rattle.wsm_lines.specs.Said.{clock_by, event_by, identifier_by}
 use Rattle.wsm_lines.specs.Scalar.{Taken}
 
 -- the event that the line says stands there
@@ -16,6 +16,10 @@ HoldsEvent s d taken r = event_by s d taken ≡ Ok (event_of r.event)
 -- the identifier that it has stands there, or none
 abbrev pub HoldsIdentifier : Source → Result Taken LineFault → Reading → Type 0
 HoldsIdentifier s taken r = identifier_by s taken ≡ Ok (identifier_held r.identifier.items)
+
+-- the clock that it names stands there, or none
+abbrev pub HoldsClock : Source → Result Taken LineFault → Reading → Type 0
+HoldsClock s taken r = clock_by s taken ≡ Ok (identifier_held r.clock.items)
 
 -- the line says no event for this fault
 abbrev pub TellsFault : Source → Declared → Result Taken LineFault → LineFault → Type 0

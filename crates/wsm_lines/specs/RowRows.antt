@@ -35,6 +35,7 @@ source = record {
       ∷ record { at = Column 4; kind = kind.Bool (record { yes = codes "true"; no = codes "false" }); default = None }
       ∷ [];
   identifier = None;
+  clock = None;
 }
 
 good : said_of source shop [] (codes "r,b,60,-7,true") ≡ Ok (Record (Some 1) (pos 60) (values.Int (negsuc 6) ∷ values.Bool true ∷ []))

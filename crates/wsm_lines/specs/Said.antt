@@ -1,4 +1,4 @@
--- Which event a line says by a source, or the first reason why it says none, and which identifier it has.
+-- Which event a line says by a source, or the first reason why it says none, which identifier it has, and which clock it names.
 -- The lines before it come the newest first.
 use Rattle.std.specs.Prelude.{ℕ, ◌==◌, ◌&&◌, ◌+◌, List, [], ◌∷◌, length, Bool, true, false, codes, slice_index_or, if◌then◌else◌, Option, Some, None, option_map, Result, Ok, Err, bytes_eq}
 use Rattle.json.specs.Json.{document}
@@ -12,6 +12,7 @@ use Rattle.wsm_lines.specs.declared.source.CsvForm.{CsvForm}
 use Rattle.wsm_lines.specs.declared.source.Format.{Format}
 use Rattle.wsm_lines.specs.declared.source.Format.TheVariants as format
 use Rattle.wsm_lines.specs.declared.source.Source.{Source}
+use Rattle.wsm_lines.specs.ClockName.{clock_at}
 use Rattle.wsm_lines.specs.Event.{event_in}
 use Rattle.wsm_lines.specs.Fault.{on_ok, or_fault, or_none}
 use Rattle.wsm_lines.specs.Heading.{Heading, unread, broken, known, heading_by, heading_in, is_unread}
@@ -82,6 +83,9 @@ event_by s d taken = on_ok taken (event_in s d)
 abbrev pub identifier_by : Source → Result Taken LineFault → Result (Option (List ℕ)) LineFault
 identifier_by s taken = on_ok taken (identifier_at s.identifier)
 
+abbrev pub clock_by : Source → Result Taken LineFault → Result (Option (List ℕ)) LineFault
+clock_by s taken = on_ok taken (λ t. Ok (clock_at s.clock t))
+
 -- the event that a line says, or the first fault
 abbrev pub said_of : Source → Declared → List (List ℕ) → List ℕ → Result Event LineFault
 said_of s d before line = event_by s d (taken_of s before line)
@@ -89,3 +93,7 @@ said_of s d before line = event_by s d (taken_of s before line)
 -- the identifier of a line that says an event, if it has one
 abbrev pub identifier_of : Source → List (List ℕ) → List ℕ → Option (List ℕ)
 identifier_of s before line = or_none (identifier_by s (taken_of s before line))
+
+-- the clock that a line names, if it names one
+abbrev pub clock_of : Source → List (List ℕ) → List ℕ → Option (List ℕ)
+clock_of s before line = or_none (clock_by s (taken_of s before line))

@@ -11,8 +11,8 @@ use crate::source::Place;
 /// The most bytes of an identifier.
 const LONGEST_IDENTIFIER: usize = 255;
 
-// Whether a text may be an identifier.
-fn is_identifier(text: &[u8]) -> bool
+/// Whether a text may be an identifier.
+pub(crate) fn is_identifier(text: &[u8]) -> bool
     ensures { result ≡ is_identifier text.now }
 {
     !text.is_empty() && text.len() <= LONGEST_IDENTIFIER

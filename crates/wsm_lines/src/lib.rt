@@ -1,9 +1,9 @@
 //! Events of log lines, by a source that says where each value stands and how it is written.
 //!
 //! A [`Source`] has the form of the lines, JSON, the combined form of access logs, CSV or rows, and the places
-//! of the key, the time, the fields and an identifier. A [`LineReader`] reads line by line what each says:
-//! an event of the query's schema and its identifier, or the first of some [`LineFault`]s. Nothing is
-//! guessed, cut or rounded.
+//! of the key, the time, the fields, an identifier and a clock. A [`LineReader`] reads line by line what each
+//! says: an event of the query's schema, its identifier and the clock that it names, or the first of some
+//! [`LineFault`]s. Nothing is guessed, cut or rounded.
 //!
 //! Where `source` has the key and the time of lines of JSON in `k` and `t`, in seconds, and no field:
 //!
@@ -28,6 +28,7 @@ pub use source::{
 };
 pub use table::{Entry, Prefixes, Table};
 
+mod clock_name;
 mod event;
 mod fault;
 mod heading;

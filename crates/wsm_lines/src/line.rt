@@ -3,7 +3,7 @@ ghost use Rattle.std.specs.Prelude.{◌≡◌, ◌≢◌, IfErr, OnOk, Err};
 ghost use Rattle.wsm_lines.specs.Fault.{IfFault, on_ok};
 ghost use Rattle.wsm_lines.specs.Heading.{headed_in};
 ghost use Rattle.wsm_lines.specs.Members.{PassesSource};
-ghost use Rattle.wsm_lines.specs.Reading.{HoldsEvent, HoldsIdentifier, TellsFault};
+ghost use Rattle.wsm_lines.specs.Reading.{HoldsClock, HoldsEvent, HoldsIdentifier, TellsFault};
 ghost use Rattle.wsm_lines.specs.Said.{taken_access, taken_json, taken_under};
 ghost use Rattle.wsm_lines.specs.Seen.{heading_seen};
 ghost use Rattle.wsm_lines.specs.Text.{text_in};
@@ -38,6 +38,7 @@ fn read_json(
     requires { PassesSource filter.now.buckets source.now }
     ensures event { OnOk result (HoldsEvent source.now schema.now (on_ok (text_in first source.now.longest line.now) taken_json) reading.new) }
     ensures identifier { OnOk result (HoldsIdentifier source.now (on_ok (text_in first source.now.longest line.now) taken_json) reading.new) }
+    ensures clock { OnOk result (HoldsClock source.now (on_ok (text_in first source.now.longest line.now) taken_json) reading.new) }
     ensures fault { IfErr result (λ r. IfFault r (TellsFault source.now schema.now (on_ok (text_in first source.now.longest line.now) taken_json))) }
 {
     let text = text_in(first, source.longest, line)?;
@@ -59,6 +60,7 @@ fn read_access(
 ) -> Result<(), LineRefusal>
     ensures event { OnOk result (HoldsEvent source.now schema.now (on_ok (text_in first source.now.longest line.now) taken_access) reading.new) }
     ensures identifier { OnOk result (HoldsIdentifier source.now (on_ok (text_in first source.now.longest line.now) taken_access) reading.new) }
+    ensures clock { OnOk result (HoldsClock source.now (on_ok (text_in first source.now.longest line.now) taken_access) reading.new) }
     ensures fault { IfErr result (λ r. IfFault r (TellsFault source.now schema.now (on_ok (text_in first source.now.longest line.now) taken_access))) }
 {
     let text = text_in(first, source.longest, line)?;
@@ -82,6 +84,7 @@ pub(crate) fn read_line(
     requires { PassesSource filter.now.buckets source.now }
     ensures event { OnOk result (HoldsEvent source.now schema.now (taken_under source.now (heading_seen heading.old) line.now) reading.new) }
     ensures identifier { OnOk result (HoldsIdentifier source.now (taken_under source.now (heading_seen heading.old) line.now) reading.new) }
+    ensures clock { OnOk result (HoldsClock source.now (taken_under source.now (heading_seen heading.old) line.now) reading.new) }
     ensures fault { IfErr result (λ r. IfFault r (TellsFault source.now schema.now (taken_under source.now (heading_seen heading.old) line.now))) }
     ensures heading { result ≢ Err LineRefusal.Memory → heading_seen heading.new ≡ headed_in source.now.format source.now.longest (heading_seen heading.old) line.now }
 {

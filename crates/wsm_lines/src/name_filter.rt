@@ -1,6 +1,6 @@
 //! Which members of an object are read: those whose names may be asked for.
 ghost use Rattle.std.specs.Prelude.{◌≡◌, ◌==◌, ◌||◌, ◌<◌, ℕ, List, slice_index, true};
-ghost use Rattle.wsm_lines.specs.Members.{PassesSource, Widens, bucket_of, passes, passes_fields, passes_first, passes_place};
+ghost use Rattle.wsm_lines.specs.Members.{PassesSource, Widens, bucket_of, passes, passes_fields, passes_first, passes_maybe, passes_place};
 
 use crate::source::{Field, Place, Source};
 use wsm_values::Word;
@@ -20,9 +20,8 @@ impl NameFilter {
         mark_place(&mut buckets, &source.key.at);
         mark_place(&mut buckets, &source.time.at);
         mark_fields(&mut buckets, source.fields.items());
-        if let Some(place) = &source.identifier {
-            mark_place(&mut buckets, place);
-        }
+        mark_maybe(&mut buckets, &source.identifier);
+        mark_maybe(&mut buckets, &source.clock);
         NameFilter { buckets }
     }
 
@@ -82,6 +81,17 @@ fn mark_place(buckets: &mut [bool; 256], place: &Place)
     match place {
         Place::Path(names) => mark_first(buckets, names.items()),
         Place::Column(_) => (),
+    }
+}
+
+// Has the first name of a place pass, if there is one.
+fn mark_maybe(buckets: &mut [bool; 256], place: &Option<Place>)
+    ensures marked { passes_maybe buckets.new place.now ≡ true }
+    ensures widens { Widens buckets.old buckets.new }
+{
+    match place {
+        Some(place) => mark_place(buckets, place),
+        None => (),
     }
 }
 

@@ -1,4 +1,6 @@
-//! Lines read as events with their identifiers, each in place of the last.
+//! Lines read as events with their identifiers and clocks, each in place of the last.
+ghost use Rattle.std.specs.Prelude.{◌≡◌, option_map};
+ghost use Rattle.wsm_lines.specs.Identifier.{identifier_held};
 ghost use Rattle.wsm_lines.specs.Members.{PassesSource};
 
 use crate::fault::LineRefusal;
@@ -12,8 +14,8 @@ use crate::text::bare;
 use std::alloc::Global;
 use wsm_record::{Event, Schema};
 
-/// Reads lines as events with their identifiers, each in place of the last. What it needs for a line keeps
-/// its room.
+/// Reads lines as events with their identifiers and clocks, each in place of the last. What it needs for a
+/// line keeps its room.
 #[derive(Drop)]
 pub struct LineReader {
     alloc: Global,
@@ -32,8 +34,8 @@ impl LineReader {
     ghost use Rattle.wsm_record.specs.Event.{event_of};
     ghost use Rattle.wsm_lines.specs.declared.source.Source.{Source};
     ghost use Rattle.wsm_lines.specs.Fault.{IfFault};
-    ghost use Rattle.wsm_lines.specs.Reader.{Follows, event_read, identifier_read};
-    ghost use Rattle.wsm_lines.specs.Said.{identifier_of, said_of};
+    ghost use Rattle.wsm_lines.specs.Reader.{Follows, clock_read, event_read, identifier_read};
+    ghost use Rattle.wsm_lines.specs.Said.{clock_of, identifier_of, said_of};
 
     /// A reader by a source, that has read no line. A record without values stands there.
     pub fn new(alloc: Global, source: Source) -> LineReader
@@ -51,17 +53,19 @@ impl LineReader {
                     values: Vec::new(alloc),
                 },
                 identifier: Vec::new(alloc),
+                clock: Vec::new(alloc),
             },
             heading: Heading::Unread,
             room: Room::new(alloc),
         }
     }
 
-    /// Reads the event and the identifier of a line, which comes without its line feed, or tells the first
-    /// fault. After a refusal any event and identifier stand there.
+    /// Reads the event, the identifier and the clock of a line, which comes without its line feed, or tells
+    /// the first fault. After a refusal any of them stand there.
     pub fn read(&mut self, schema: &Schema, line: &[u8]) -> Result<(), LineRefusal>
         ensures event { (s : Source) (before : List (List ℕ)) → Follows s before self.old → OnOk result (said_of s schema.now before line.now ≡ Ok (event_read self.new)) }
         ensures identifier { (s : Source) (before : List (List ℕ)) → Follows s before self.old → OnOk result (identifier_of s before line.now ≡ identifier_read self.new) }
+        ensures clock { (s : Source) (before : List (List ℕ)) → Follows s before self.old → OnOk result (clock_of s before line.now ≡ clock_read self.new) }
         ensures fault { (s : Source) (before : List (List ℕ)) → Follows s before self.old → IfErr result (λ r. IfFault r (λ f. said_of s schema.now before line.now ≡ Err f)) }
         ensures follows { (s : Source) (before : List (List ℕ)) → Follows s before self.old → (result ≢ Err LineRefusal.Memory) → Follows s (line.now ∷ before) self.new }
     {
@@ -88,11 +92,20 @@ impl LineReader {
     pub fn identifier(&self) -> Option<&[u8]>
         ensures { option_map (λ t. t.now) result ≡ identifier_read self.now }
     {
-        let identifier = self.reading.identifier.as_slice();
-        if identifier.is_empty() {
-            None
-        } else {
-            Some(identifier)
-        }
+        held(&self.reading.identifier)
     }
+
+    /// The name of the clock that the line names which was read last, if it names one: 1 to 255 bytes.
+    pub fn clock(&self) -> Option<&[u8]>
+        ensures { option_map (λ t. t.now) result ≡ clock_read self.now }
+    {
+        held(&self.reading.clock)
+    }
+}
+
+// The text that bytes keep: none where there is no byte.
+fn held(bytes: &[u8]) -> Option<&[u8]>
+    ensures { option_map (λ t. t.now) result ≡ identifier_held bytes.now }
+{
+    if bytes.is_empty() { None } else { Some(bytes) }
 }

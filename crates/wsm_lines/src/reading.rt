@@ -1,11 +1,13 @@
 //! What was read of a line.
 ghost use Rattle.std.specs.Prelude.{◌≡◌, IfErr, OnOk, Err, Ok};
 ghost use Rattle.wsm_record.specs.Event.{event_of};
+ghost use Rattle.wsm_lines.specs.ClockName.{clock_at};
 ghost use Rattle.wsm_lines.specs.Event.{event_in};
 ghost use Rattle.wsm_lines.specs.Fault.{IfFault};
 ghost use Rattle.wsm_lines.specs.Identifier.{identifier_at, identifier_held};
 ghost use Rattle.wsm_lines.specs.Seen.{taken_seen};
 
+use crate::clock_name::read_clock;
 use crate::event::read_record;
 use crate::fault::LineRefusal;
 use crate::identifier::read_identifier;
@@ -21,9 +23,12 @@ pub struct Reading {
     pub event: Event,
     /// The bytes of the identifier: none where there is no identifier, since no identifier is empty.
     pub identifier: Vec<u8>,
+    /// The bytes of the clock's name: none where the line names no clock.
+    pub clock: Vec<u8>,
 }
 
-/// Reads what a line says, its event and its identifier, in place of what was read.
+/// Reads what a line says, its event, its identifier and the clock that it names, in place of what was
+/// read.
 pub(crate) fn read_taken(
     alloc: Global,
     source: &Source,
@@ -33,8 +38,10 @@ pub(crate) fn read_taken(
 ) -> Result<(), LineRefusal>
     ensures event { OnOk result (event_in source.now schema.now (taken_seen taken.now) ≡ Ok (event_of reading.new.event)) }
     ensures identifier { OnOk result (identifier_at source.now.identifier (taken_seen taken.now) ≡ Ok (identifier_held reading.new.identifier.items)) }
+    ensures clock { OnOk result (clock_at source.now.clock (taken_seen taken.now) ≡ identifier_held reading.new.clock.items) }
     ensures fault { IfErr result (λ r. IfFault r (λ f. event_in source.now schema.now (taken_seen taken.now) ≡ Err f)) }
 {
     read_record(alloc, source, schema, taken, &mut reading.event)?;
-    read_identifier(&source.identifier, taken, &mut reading.identifier)
+    read_identifier(&source.identifier, taken, &mut reading.identifier)?;
+    Ok(read_clock(&source.clock, taken, &mut reading.clock)?)
 }

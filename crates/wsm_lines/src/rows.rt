@@ -3,7 +3,7 @@ ghost use Rattle.std.specs.Prelude.{◌≡◌, ◌≢◌, IfErr, OnOk, Err, fals
 ghost use Rattle.wsm_parts.specs.Csv.{cells_of};
 ghost use Rattle.wsm_lines.specs.Fault.{IfFault, on_ok};
 ghost use Rattle.wsm_lines.specs.Heading.{headed, is_unread};
-ghost use Rattle.wsm_lines.specs.Reading.{HoldsEvent, HoldsIdentifier, TellsFault};
+ghost use Rattle.wsm_lines.specs.Reading.{HoldsClock, HoldsEvent, HoldsIdentifier, TellsFault};
 ghost use Rattle.wsm_lines.specs.Said.{taken_below, taken_row};
 ghost use Rattle.wsm_lines.specs.Seen.{header_seen, heading_seen};
 ghost use Rattle.wsm_lines.specs.Text.{text_in};
@@ -32,6 +32,7 @@ fn read_row(
 ) -> Result<(), LineRefusal>
     ensures event { OnOk result (HoldsEvent source.now schema.now (taken_row header.now.columns.items header.now.count (cells_of separator text.now)) reading.new) }
     ensures identifier { OnOk result (HoldsIdentifier source.now (taken_row header.now.columns.items header.now.count (cells_of separator text.now)) reading.new) }
+    ensures clock { OnOk result (HoldsClock source.now (taken_row header.now.columns.items header.now.count (cells_of separator text.now)) reading.new) }
     ensures fault { IfErr result (λ r. IfFault r (TellsFault source.now schema.now (taken_row header.now.columns.items header.now.count (cells_of separator text.now)))) }
 {
     if !find_cells(separator, text, &mut room.spans)? {
@@ -57,6 +58,7 @@ fn read_below(
 ) -> Result<(), LineRefusal>
     ensures event { OnOk result (HoldsEvent source.now schema.now (on_ok (text_in false source.now.longest line.now) (taken_below form.now (header_seen header.now))) reading.new) }
     ensures identifier { OnOk result (HoldsIdentifier source.now (on_ok (text_in false source.now.longest line.now) (taken_below form.now (header_seen header.now))) reading.new) }
+    ensures clock { OnOk result (HoldsClock source.now (on_ok (text_in false source.now.longest line.now) (taken_below form.now (header_seen header.now))) reading.new) }
     ensures fault { IfErr result (λ r. IfFault r (TellsFault source.now schema.now (on_ok (text_in false source.now.longest line.now) (taken_below form.now (header_seen header.now))))) }
 {
     let text = text_in(false, source.longest, line)?.as_bytes();
@@ -88,6 +90,7 @@ pub(crate) fn read_csv(
 ) -> Result<(), LineRefusal>
     ensures event { OnOk result (HoldsEvent source.now schema.now (on_ok (text_in (is_unread (heading_seen heading.old)) source.now.longest line.now) (taken_below form.now (heading_seen heading.old))) reading.new) }
     ensures identifier { OnOk result (HoldsIdentifier source.now (on_ok (text_in (is_unread (heading_seen heading.old)) source.now.longest line.now) (taken_below form.now (heading_seen heading.old))) reading.new) }
+    ensures clock { OnOk result (HoldsClock source.now (on_ok (text_in (is_unread (heading_seen heading.old)) source.now.longest line.now) (taken_below form.now (heading_seen heading.old))) reading.new) }
     ensures fault { IfErr result (λ r. IfFault r (TellsFault source.now schema.now (on_ok (text_in (is_unread (heading_seen heading.old)) source.now.longest line.now) (taken_below form.now (heading_seen heading.old))))) }
     ensures heading { result ≢ Err LineRefusal.Memory → heading_seen heading.new ≡ headed form.now source.now.longest (heading_seen heading.old) line.now }
 {

@@ -170,4 +170,7 @@ pub struct Source {
     /// Where a record has its identifier, if the source says so. A record of which nothing stands there
     /// has none.
     pub identifier: Option<Place>,
+    /// Where a line names the clock of its record, if the source says so. A line of which no text of 1 to
+    /// 255 bytes stands there names none.
+    pub clock: Option<Place>,
 }

@@ -1,7 +1,7 @@
 //! Lines that are rows of a query's own form.
 ghost use Rattle.std.specs.Prelude.{◌≡◌, IfErr, IfOk, OnOk, length};
 ghost use Rattle.wsm_lines.specs.Fault.{IfFault, on_ok};
-ghost use Rattle.wsm_lines.specs.Reading.{HoldsEvent, HoldsIdentifier, TellsFault};
+ghost use Rattle.wsm_lines.specs.Reading.{HoldsClock, HoldsEvent, HoldsIdentifier, TellsFault};
 ghost use Rattle.wsm_lines.specs.Said.{if_record, taken_record};
 ghost use Rattle.wsm_lines.specs.Text.{text_in};
 
@@ -53,6 +53,7 @@ pub(crate) fn read_tagged_row(
 ) -> Result<(), LineRefusal>
     ensures event { OnOk result (HoldsEvent source.now schema.now (on_ok (text_in first source.now.longest line.now) (taken_record (length source.now.fields))) reading.new) }
     ensures identifier { OnOk result (HoldsIdentifier source.now (on_ok (text_in first source.now.longest line.now) (taken_record (length source.now.fields))) reading.new) }
+    ensures clock { OnOk result (HoldsClock source.now (on_ok (text_in first source.now.longest line.now) (taken_record (length source.now.fields))) reading.new) }
     ensures fault { IfErr result (λ r. IfFault r (TellsFault source.now schema.now (on_ok (text_in first source.now.longest line.now) (taken_record (length source.now.fields))))) }
 {
     let text = text_in(first, source.longest, line)?.as_bytes();

@@ -122,16 +122,16 @@ module _ (q : Query) (sel : ℕ → List Value → Bool) (row : ℕ → List Dat
   text_same clocks all = (λ i. turns_same clocks all i ++ end_text_same clocks all i)
 
   Completes-same : (known : Option (List ℕ)) (s : Source) (clocks : Option Clocks) (read : List (List ℕ)) (old new : Option (List ℕ)) (totals : Totals) → Completes known s clocks q read old new totals → Completes known s clocks m read old new totals
-  Completes-same known s clocks read old new totals h = record { all = h.all; text = subst (Appends old new) (text_same clocks (read_by s q read)) h.text; numbers = h.numbers ∙ end_same clocks (read_by s q read) }
+  Completes-same known s clocks read old new totals h = record { all = h.all; text = subst (Appends old new) (text_same clocks (read_by s clocks q read)) h.text; numbers = h.numbers ∙ end_same clocks (read_by s clocks q read) }
 
   BreaksOff-same : (known : Option (List ℕ)) (s : Source) (clocks : Option Clocks) (read : List (List ℕ)) (old new : Option (List ℕ)) → BreaksOff known s clocks q read old new → BreaksOff known s clocks m read old new
-  BreaksOff-same known s clocks read old new h = record { first = h.first; text = subst (Appends old new) (turns_same clocks (read_by s q read)) h.text }
+  BreaksOff-same known s clocks read old new h = record { first = h.first; text = subst (Appends old new) (turns_same clocks (read_by s clocks q read)) h.text }
 
   EndsEarly-same : (known : Option (List ℕ)) (s : Source) (clocks : Option Clocks) (read : List (List ℕ)) (old new : Option (List ℕ)) (end : LogEnd) → EndsEarly known s clocks q read old new end → EndsEarly known s clocks m read old new end
   EndsEarly-same known s clocks read old new log.Memory h = BreaksOff-same known s clocks read old new h
   EndsEarly-same known s clocks read old new log.ReadFailed h = BreaksOff-same known s clocks read old new h
-  EndsEarly-same known s clocks read old new log.WriteFailed (inl h) = inl (record { first = h.first; part = subst (TakesPart old new) (turns_same clocks (read_by s q read)) h.part })
-  EndsEarly-same known s clocks read old new log.WriteFailed (inr h) = inr (record { all = h.all; part = subst (TakesPart old new) (text_same clocks (read_by s q read)) h.part })
+  EndsEarly-same known s clocks read old new log.WriteFailed (inl h) = inl (record { first = h.first; part = subst (TakesPart old new) (turns_same clocks (read_by s clocks q read)) h.part })
+  EndsEarly-same known s clocks read old new log.WriteFailed (inr h) = inr (record { all = h.all; part = subst (TakesPart old new) (text_same clocks (read_by s clocks q read)) h.part })
 
 pub log_written : (text : List ℕ) (q : tree.Query) → IsAcceptedQuery text q → (known : Option (List ℕ)) (s : Source) (clocks : Option Clocks) (old new : Option (List ℕ)) (totals : Totals)
     → LogWritten known s clocks old new (query_of (program_of q)) totals → LogWritten known s clocks old new (meant q) totals

@@ -27,14 +27,14 @@ use Rattle.wsm_description.specs.declared.refusal.SourceFault.{SourceFault}
 use Rattle.wsm_description.specs.declared.refusal.SourceFault.TheVariants.{BadRange}
 use Rattle.wsm_description.specs.Reading.{at_key}
 use Rattle.wsm_description.specs.Refusals.{dotted, on_ok}
-use Rattle.wsm_source.specs.Binding.{bound, format_with, identifier_column}
+use Rattle.wsm_source.specs.Binding.{bound, clock_column, clock_said, format_with, identifier_column}
 use Rattle.wsm_source.specs.FieldBinding as fields
 use Rattle.wsm_source.specs.FieldBinding.{all_declared, bound_in, default_or_none, described_field, enum_default, enum_table, field_or_plain, field_with, fields_from, fields_of, is_plain, kind_of, named_from, named_table, no_decimal, number_kind, plain_field, typed_default, unsaid, with_words, words_added}
 use Rattle.wsm_source.specs.KeyBinding as keys
 use Rattle.wsm_source.specs.KeyBinding.{key_form, key_names, key_number, other_number, prefixes_from, time_at}
 use Rattle.wsm_source.specs.Names.{at_start, bad_line, begun, behind_quotes, behind_return, end_line, finish, in_key, in_plain, in_quotes, names_from, names_of, step, with_entry}
 use Rattle.wsm_source.specs.NamesRead.{NamesRead}
-use Rattle.wsm_source.specs.Places.{identifier_place, place_of}
+use Rattle.wsm_source.specs.Places.{place_if, place_of}
 use Rattle.wsm_source.specs.declared.names_part.Within.TheVariants.{Start, Plain, Quotes, Closed, Key, Return}
 use Rattle.wsm_row_laws.specs.SaidRows.{is_of_type}
 use Rattle.wsm_row_laws.proofs.ReadRows.{fields_listed, rest_listed, type_listed}
@@ -282,6 +282,7 @@ bound_fit x d zone file t =
     (λ a. if_ok (SourceFits d) (λ k. NamesFit (length d.keys) k.names) (key_form x.format d.keys file x.key) _ (form_fits x.format d.keys file x.key)
     (λ key names. if_any (SourceFits d) (time_at x.format zone x.time) _
     (λ time. if_ok (SourceFits d) (FieldsFit d.fields) (fields_of x.format x.fields d.fields) _ (fields_fit x.format x.fields 2 [] [] d.fields [] (fields_listed d t) tt)
-    (λ fs fit. if_any (SourceFits d) (identifier_place x.format (identifier_column d.fields) x.identifier) _
-    (λ identifier. if_any (SourceFits d) (format_with x d.fields) _
-    (λ format. record { names = names; fields = fit }))))))
+    (λ fs fit. if_any (SourceFits d) (place_if x.format (identifier_column d.fields) (codes "identifier") x.identifier) _
+    (λ identifier. if_any (SourceFits d) (place_if x.format (clock_column x.identifier d.fields) (codes "clock") (clock_said x.clock)) _
+    (λ clock. if_any (SourceFits d) (format_with x d.fields) _
+    (λ format. record { names = names; fields = fit })))))))

@@ -10,8 +10,10 @@ use Rattle.wsm_lines.specs.Said.{event_by, identifier_of, said_of, taken_of}
 use Rattle.wsm_lines.specs.Scalar.{Taken}
 use Rattle.wsm_lines.specs.declared.fault.LineFault.{LineFault}
 use Rattle.wsm_lines.specs.declared.source.Source.{Source}
-use Rattle.wsm_turns.specs.Turns.{spoken}
-use Rattle.wsm_intake.specs.Intake.{Said, said}
+use Rattle.wsm_turns.specs.declared.clocks.Clocks.{Clocks}
+use Rattle.wsm_turns.specs.declared.voice.Voice.{Voice}
+use Rattle.wsm_turns.specs.Turns.{spoken_by}
+use Rattle.wsm_intake.specs.Intake.{Said, said, voiced_line}
 use Rattle.wsm_turn_laws.specs.Delivered.{AllLeaveMark, LeavesMark}
 use Rattle.wsm_row_laws.proofs.Sayable.{any, if_ok}
 
@@ -31,10 +33,11 @@ leaves_taken : (d : Declared) (s : Source) (taken : Result Taken LineFault) → 
 leaves_taken d s (Ok taken) = leaves_event d s taken
 leaves_taken d s (Err why) = tt
 
-one_more : (identifier : Option (List ℕ)) (r : Result Event LineFault) (before : List Said) → IfOk r LeavesMark → AllLeaveMark before → AllLeaveMark (spoken identifier r ∷ before)
-one_more identifier (Ok e) before leaves all = (leaves, all)
-one_more identifier (Err why) before leaves all = all
+one_more : (identifier : Option (List ℕ)) (voice : Voice) (r : Result Event LineFault) (before : List Said) → IfOk r LeavesMark → AllLeaveMark before → AllLeaveMark (spoken_by identifier voice r ∷ before)
+one_more identifier voice (Ok e) before leaves all = (leaves, all)
+one_more identifier voice (Err why) before leaves all = all
 
-pub leave_mark : (d : Declared) (s : Source) (lines : List (List ℕ)) → AllLeaveMark (said s d lines)
-leave_mark d s [] = tt
-leave_mark d s (line ∷ before) = one_more (identifier_of s before line) (said_of s d before line) (said s d before) (leaves_taken d s (taken_of s before line)) (leave_mark d s before)
+pub leave_mark : (d : Declared) (s : Source) (clocks : Option Clocks) (lines : List (List ℕ)) → AllLeaveMark (said s clocks d lines)
+leave_mark d s clocks [] = tt
+leave_mark d s clocks (line ∷ before) =
+    one_more (identifier_of s before line) (voiced_line s clocks d before line).voice (said_of s d before line) (said s clocks d before) (leaves_taken d s (taken_of s before line)) (leave_mark d s clocks before)

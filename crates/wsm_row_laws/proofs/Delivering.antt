@@ -11,7 +11,10 @@ use Rattle.wsm_watermarks.specs.declared.stamp.Stamp.{Stamp}
 use Rattle.wsm_semantics.specs.Query.{Query}
 use Rattle.wsm_doubles.specs.Memory.{knows}
 use Rattle.wsm_doubles.specs.Passing.{TextPassing, passes, passing_texts}
-use Rattle.wsm_turns.specs.Turns.{Kept, kept, setting_of, stamp_of, stamped, turn_by}
+use Rattle.wsm_turns.specs.declared.voice.Voice.{Voice}
+use Rattle.wsm_turns.specs.declared.voice.Voice.TheVariants.{Key, Named, Silent}
+use Rattle.wsm_turns.specs.Voices.{stamp_by}
+use Rattle.wsm_turns.specs.Turns.{Kept, kept, passing_by, setting_of, stamp_of, turn_by}
 use Rattle.wsm_intake.specs.Intake.{Said}
 use Rattle.wsm_row_laws.specs.Delivered.{AreSent, deliveries, delivery_of, seen}
 
@@ -34,21 +37,28 @@ time_is d (Some key) time values stamp h =
 abbrev with_one : Query → Event → List ℕ → ℤ → TextPassing → TextPassing
 with_one q e i time o = if knows i o.memory then o else passes q e ((i, time) ∷ o.memory) o.passed
 
-seen_if : (q : Query) (k : Kept) (n : ℕ) (stamp : Stamp) (e : Event) (i : List ℕ) (b : Bool) →
-    seen (if b then record { goes = []; kept = k } else stamped (setting_of None q) k n stamp (record { event = e; identifier = Some i })).kept
-    ≡ (if b then seen k else passes q e ((i, pos stamp.time) ∷ k.memory) k.fed)
-seen_if q k n stamp e i true = refl
-seen_if q k n stamp e i false = refl
+-- whatever its voice is
+seen_by : (q : Query) (k : Kept) (n : ℕ) (stamp : Stamp) (e : Event) (i : List ℕ) (v u : Voice) →
+    seen (passing_by (setting_of None q) k n (stamp_by v stamp) stamp.time (record { event = e; identifier = Some i; voice = u })).kept ≡ passes q e ((i, pos stamp.time) ∷ k.memory) k.fed
+seen_by q k n stamp e i Key u = refl
+seen_by q k n stamp e i (Named clock) u = refl
+seen_by q k n stamp e i Silent u = refl
 
-one_more : (q : Query) (k : Kept) (n : ℕ) (before : List Said) (e : Event) (o : Option (List ℕ)) (i : List ℕ) (stamp : Stamp) → o ≡ Some i → stamp_of q.declared e ≡ Some stamp
+seen_if : (q : Query) (k : Kept) (n : ℕ) (stamp : Stamp) (e : Event) (i : List ℕ) (v : Voice) (b : Bool) →
+    seen (if b then record { goes = []; kept = k } else passing_by (setting_of None q) k n (stamp_by v stamp) stamp.time (record { event = e; identifier = Some i; voice = v })).kept
+    ≡ (if b then seen k else passes q e ((i, pos stamp.time) ∷ k.memory) k.fed)
+seen_if q k n stamp e i v true = refl
+seen_if q k n stamp e i v false = seen_by q k n stamp e i v v
+
+one_more : (q : Query) (k : Kept) (n : ℕ) (before : List Said) (e : Event) (o : Option (List ℕ)) (v : Voice) (i : List ℕ) (stamp : Stamp) → o ≡ Some i → stamp_of q.declared e ≡ Some stamp
     → seen k ≡ passing_texts q (deliveries before)
-    → seen (turn_by (setting_of None q) k n (stamp_of q.declared e) (record { event = e; identifier = o })).kept ≡ passing_texts q (delivery_of e o ++ deliveries before)
-one_more q k n before (Watermark source time) o i stamp has tells h = cc
-one_more q k n before (Record key time values) None i stamp has tells h = cc
-one_more q k n before (Record key time values) (Some j) i stamp has tells h =
+    → seen (turn_by (setting_of None q) k n (stamp_of q.declared e) (record { event = e; identifier = o; voice = v })).kept ≡ passing_texts q (delivery_of e o ++ deliveries before)
+one_more q k n before (Watermark source time) o v i stamp has tells h = cc
+one_more q k n before (Record key time values) None v i stamp has tells h = cc
+one_more q k n before (Record key time values) (Some j) v i stamp has tells h =
     let e = Record key time values in
-    ap (λ (s : Option Stamp). seen (turn_by (setting_of None q) k n s (record { event = e; identifier = Some j })).kept) tells
-    ∙ seen_if q k n stamp e j (knows j k.memory)
+    ap (λ (s : Option Stamp). seen (turn_by (setting_of None q) k n s (record { event = e; identifier = Some j; voice = v })).kept) tells
+    ∙ seen_if q k n stamp e j v (knows j k.memory)
     ∙ ap (λ (t : ℤ). with_one q e j t (seen k)) (time_is q.declared key time values stamp tells)
     ∙ ap (with_one q e j time) h
 
@@ -56,4 +66,4 @@ pub feeds : (q : Query) (lines : List Said) → AreSent q.declared lines → see
 feeds q [] are = refl
 feeds q (Err why ∷ before) are = feeds q before are
 feeds q (Ok x ∷ before) are =
-    one_more q (kept (setting_of None q) before) (length before + 1) before x.event x.identifier are.0.identifier are.0.stamp are.0.has are.0.tells (feeds q before are.1)
+    one_more q (kept (setting_of None q) before) (length before + 1) before x.event x.identifier x.voice are.0.identifier are.0.stamp are.0.has are.0.tells (feeds q before are.1)

@@ -19,24 +19,26 @@ use Rattle.wsm_watermarks.specs.declared.held.Timed.{Timed}
 use Rattle.wsm_watermarks.specs.declared.stamp.Stamp.{Stamp}
 use Rattle.wsm_lines.specs.Fault.{fault_word}
 use Rattle.wsm_lines.specs.declared.fault.LineFault.{LineFault}
-use Rattle.wsm_turns.specs.Turns.{Kept, fed_with, kept, setting_of, spoken, stamp_of, turn_by}
+use Rattle.wsm_turns.specs.declared.voice.Voice.TheVariants.{Key}
+use Rattle.wsm_turns.specs.Voices.{voiced_at}
+use Rattle.wsm_turns.specs.Turns.{Kept, fed_with, kept, setting_of, spoken_by, stamp_of, turn_by}
 use Rattle.wsm_lines.specs.declared.source.Source.{Source}
 use Rattle.wsm_lines.specs.Identifier.{identifier_at}
 use Rattle.wsm_lines.specs.Fault.{on_ok, or_none}
-use Rattle.wsm_lines.specs.Said.{identifier_of, said_of, taken_of}
+use Rattle.wsm_lines.specs.Said.{clock_of, identifier_of, said_of, taken_of}
 use Rattle.wsm_lines.specs.Scalar.{Taken}
 use Rattle.wsm_log_rows.specs.Rows.{Said}
 use Rattle.wsm_intake.specs.Intake as intake
-use Rattle.wsm_intake.specs.Intake.{end_text, event_text, events_text, fault_count, line_behind, turn_text}
+use Rattle.wsm_intake.specs.Intake.{end_text, event_text, events_text, fault_count, line_behind, turn_text, voiced_in}
 use Rattle.wsm_turns.specs.Numbered.{Numbered}
 use Rattle.wsm_row_laws.specs.SaidRows.{row_said}
 use Rattle.wsm_row_laws.specs.SameRuns.{AreWithout, EndsAlike, WritesAlike, plain, refused_text}
 
 -- the event of a line goes on at its turn, alone
 record GoesAlone (q : Query) (k : Kept) (n : ℕ) (o : Option Stamp) (e : Event) : Type 0 where
-  goes : (turn_by (setting_of None q) k n o (record { event = e; identifier = None })).goes ≡ record { number = n; event = e } ∷ []
-  fed : (turn_by (setting_of None q) k n o (record { event = e; identifier = None })).kept.fed ≡ e ∷ k.fed
-  waits : (turn_by (setting_of None q) k n o (record { event = e; identifier = None })).kept.waits ≡ k.waits
+  goes : (turn_by (setting_of None q) k n o (record { event = e; identifier = None; voice = Key })).goes ≡ record { number = n; event = e } ∷ []
+  fed : (turn_by (setting_of None q) k n o (record { event = e; identifier = None; voice = Key })).kept.fed ≡ e ∷ k.fed
+  waits : (turn_by (setting_of None q) k n o (record { event = e; identifier = None; voice = Key })).kept.waits ≡ k.waits
 
 goes_alone : (q : Query) (k : Kept) (n : ℕ) (o : Option Stamp) (e : Event) → GoesAlone q k n o e
 goes_alone q k n None e = record { goes = refl; fed = refl; waits = refl }
@@ -113,7 +115,15 @@ ends_alike q lines records small =
     ∙ ap (λ p. line_text q.declared (line_behind q said p)) (fed_is q lines)
     ∙ (λ i. line_text q.declared (End (rows i) (admitted i) (counter (late_count q.clock q.shape q.declared past)) (counter (faults i + refused_count q.clock q.shape q.declared past)) (counter (length (firings_so_far q past)))))
 
--- ---- a source without identifiers
+-- ---- a source without identifiers, and no clocks
+
+key_only : (o : Option Stamp) (names : List (List ℕ)) (name : Option (List ℕ)) → (voiced_at o None names name).voice ≡ Key
+key_only None names name = refl
+key_only (Some stamp) names name = refl
+
+by_key : (d : Declared) (names : List (List ℕ)) (name : Option (List ℕ)) (r : Result Event LineFault) → (voiced_in None d names name r).voice ≡ Key
+by_key d names name (Ok e) = key_only (stamp_of d e) names name
+by_key d names name (Err why) = refl
 
 no_identifier : (taken : Result Taken LineFault) → or_none (on_ok taken (identifier_at None)) ≡ None
 no_identifier (Ok t) = refl
@@ -123,5 +133,6 @@ pub are_without : (s : Source) (d : Declared) → s.identifier ≡ None → (lin
 are_without s d none [] = refl
 are_without s d none (line ∷ before) =
     let without : identifier_of s before line ≡ None = ap (λ p. or_none (on_ok (taken_of s before line) (identifier_at p))) none ∙ no_identifier (taken_of s before line) in
-    let first : intake.said_at s d before line ≡ plain (said_of s d before line) = ap (λ i. spoken i (said_of s d before line)) without in
+    let key = by_key d (intake.names_of s None d before) (clock_of s before line) (said_of s d before line) in
+    let first : intake.said_at s None d before line ≡ plain (said_of s d before line) = λ j. spoken_by (without j) (key j) (said_of s d before line) in
     λ j. first j ∷ are_without s d none before j

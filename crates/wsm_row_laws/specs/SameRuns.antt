@@ -21,7 +21,7 @@ plain x = spoken None x
 
 -- by a source without identifiers no line has one
 abbrev pub AreWithout : Source → Declared → List (List ℕ) → Type 0
-AreWithout s d lines = intake.said s d lines ≡ map plain (said s d lines)
+AreWithout s d lines = intake.said s None d lines ≡ map plain (said s d lines)
 
 abbrev pub refused_text : ℕ → List ℕ → List ℕ
 refused_text number word = codes "refused," ++ decimal number ++ codes "," ++ word ++ codes "\n"

@@ -1,6 +1,6 @@
 //! What runs over logs and over rows come to.
 
-ghost use Rattle.std.specs.Prelude.{◌≡◌, ◌+◌, ◌<◌, ◌^◌, ℕ, List, None, IfOk, IsTrue, length, reverse, unsigned_abs};
+ghost use Rattle.std.specs.Prelude.{◌≡◌, ◌+◌, ◌<◌, ◌^◌, ℕ, List, None, Some, IfOk, IsTrue, length, reverse, unsigned_abs};
 ghost use Rattle.wsm_record.specs.Schema.{Declared, is_schema};
 ghost use Rattle.wsm_lines.specs.declared.source.Source.{Source};
 ghost use Rattle.wsm_values.specs.declared.zone.Zone.{Zone};
@@ -52,9 +52,9 @@ pub fn passes_deliveries()
 /// With clocks a run over the lines of a log feeds the query what passes of the records that the lines deliver, as each goes on
 /// (`feeds_deliveries` of `wsm_turn_laws`): a source's lines tell no watermark. So no record counts twice, whatever the clocks do.
 pub fn counts_deliveries()
-    ensures so_far { (s : Source) (q : Query) (c : Clocks) (lines : List (List ℕ)) → Suits c q → FeedsDeliveries q c (said_with s q.declared lines) }
-    ensures at_end { (s : Source) (q : Query) (c : Clocks) (lines : List (List ℕ)) → Suits c q → EndsDeliveries q c (said_with s q.declared lines) }
-    ensures once { (s : Source) (q : Query) (c : Clocks) (lines : List (List ℕ)) → Suits c q → CountOnce q c (said_with s q.declared lines) }
+    ensures so_far { (s : Source) (q : Query) (c : Clocks) (lines : List (List ℕ)) → Suits c q → FeedsDeliveries q c (said_with s (Some c) q.declared lines) }
+    ensures at_end { (s : Source) (q : Query) (c : Clocks) (lines : List (List ℕ)) → Suits c q → EndsDeliveries q c (said_with s (Some c) q.declared lines) }
+    ensures once { (s : Source) (q : Query) (c : Clocks) (lines : List (List ℕ)) → Suits c q → CountOnce q c (said_with s (Some c) q.declared lines) }
 {
     feeds_deliveries::<LineFault>();
 }

@@ -4,6 +4,7 @@ use Rattle.std.proofs.lemmas.Bool.Decides.{nat_tests}
 use Rattle.std.specs.Prelude.{◌&&◌, is_some}
 use Rattle.wsm_record.specs.Event.{Event, Record, Watermark}
 use Rattle.wsm_record.specs.declared.event.Value.{Value}
+use Rattle.wsm_turns.specs.declared.voice.Voice.TheVariants.{Key}
 use Rattle.wsm_turns.specs.Turns.{Setting, Spoken, is_double, stamp_of}
 use Rattle.wsm_row_watermarks.specs.declared.counts.Counts.{Counts}
 use Rattle.wsm_row_watermarks.specs.declared.turns.RowTurns.{RowTurns}
@@ -51,9 +52,9 @@ line_taken w once before raw line counts mid new is counted unread doubles lines
 
 -- the turn of an event that is a record
 pub turn_of_record : (w : Setting) (s : State) (number : ℕ) (line : Line) (identifier : Option (List ℕ)) (e : Event) (key : Option ℕ) (time : ℤ) (values : List Value) → e ≡ Record key time values
-    → turn_at w s number line identifier e ≡ recorded w s number line (record { event = e; identifier = identifier })
+    → turn_at w s number line identifier e ≡ recorded w s number line (record { event = e; identifier = identifier; voice = Key })
 turn_of_record w s number line identifier e key time values is =
-    subst (λ (x : Event). turn_at w s number line identifier x ≡ recorded w s number line (record { event = x; identifier = identifier })) (sym is) refl
+    subst (λ (x : Event). turn_at w s number line identifier x ≡ recorded w s number line (record { event = x; identifier = identifier; voice = Key })) (sym is) refl
 
 -- a watermark isn't left out
 pub mark_stays : (w : Setting) (s : State) (x : Spoken) (source : Option ℕ) (time : ℤ) → x.event ≡ Watermark source time → is_left_out w s (Ok x) ≡ false

@@ -5,6 +5,7 @@ use Rattle.wsm_record.specs.Event.{Event}
 use Rattle.wsm_watermarks.specs.declared.stamp.Stamp.{Stamp}
 use Rattle.wsm_turns.specs.declared.identifiers.Identifiers.{Identifiers}
 use Rattle.wsm_turns.specs.declared.waiting.Waiting.{Waiting}
+use Rattle.wsm_turns.specs.declared.voice.Voice.TheVariants.{Key}
 use Rattle.wsm_turns.specs.Known.{Passes}
 use Rattle.wsm_turns.specs.Noted.{Notes, noted_by}
 use Rattle.wsm_turns.specs.Numbered.{Numbered}
@@ -19,6 +20,10 @@ use Rattle.wsm_row_watermarks.specs.Handed.{Serves, Tells, Took, fed_append}
 use Rattle.wsm_row_watermarks.specs.Lines.{Line}
 use Rattle.wsm_row_watermarks.specs.Turns.{State, events_text, is_left_out, marked, recorded, recorded_by, setting_in, with_feed}
 use Rattle.wsm_row_watermarks.proofs.Counting.{as_many}
+
+-- a record by its key
+abbrev by_key : Event → Option (List ℕ) → Spoken
+by_key e identifier = record { event = e; identifier = identifier; voice = Key }
 
 module _ (w : Setting) (s : State) (line : Line) (old : RowTurns) (begins : Begins w old s line.text) where
   -- a record that says nothing of time goes on
@@ -42,11 +47,12 @@ module _ (w : Setting) (s : State) (line : Line) (old : RowTurns) (begins : Begi
       })
 
   -- a record with its stamp, of whose identifier note was taken
-  pub record_passes : (handed : Handed) (waiting : Option Waiting) (identifiers : Identifiers) (stamp : Stamp) (x : Spoken) → stamp_of w.declared x.event ≡ Some stamp
-      → Passes w (watermark w s.kept.fed) identifiers x.identifier stamp.time s.kept.memory true
-      → Takes s.clocks (length w.declared.keys) s.kept waiting (Took old.handed handed) stamp old.counts.lines x.event
-      → Goes w old (record old { handed = handed; waiting = waiting; identifiers = identifiers }) (recorded w s old.counts.lines line x) false (is_left_out w s (Ok x))
-  record_passes handed waiting identifiers stamp x is passes takes =
+  pub record_passes : (handed : Handed) (waiting : Option Waiting) (identifiers : Identifiers) (stamp : Stamp) (e : Event) (identifier : Option (List ℕ)) → stamp_of w.declared e ≡ Some stamp
+      → Passes w (watermark w s.kept.fed) identifiers identifier stamp.time s.kept.memory true
+      → Takes s.clocks (length w.declared.keys) s.kept waiting (Took old.handed handed) stamp old.counts.lines e
+      → Goes w old (record old { handed = handed; waiting = waiting; identifiers = identifiers }) (recorded w s old.counts.lines line (by_key e identifier)) false (is_left_out w s (Ok (by_key e identifier)))
+  record_passes handed waiting identifiers stamp e identifier is passes takes =
+      let x = by_key e identifier in
       let k = s.kept in
       let n = old.counts.lines in
       let new : RowTurns = record old { handed = handed; waiting = waiting; identifiers = identifiers } in
@@ -68,11 +74,12 @@ module _ (w : Setting) (s : State) (line : Line) (old : RowTurns) (begins : Begi
       subst (λ (o : Option Stamp). Goes w old new (recorded_by w s n line (turn_by (setting_in w s) k n o x)) false (is_some o && is_double x.identifier k.memory)) (sym is) by_double
 
   -- a double is left out
-  pub record_left : (identifiers : Identifiers) (counts : Counts) (stamp : Stamp) (x : Spoken) → stamp_of w.declared x.event ≡ Some stamp
-      → Passes w (watermark w s.kept.fed) identifiers x.identifier stamp.time s.kept.memory false
+  pub record_left : (identifiers : Identifiers) (counts : Counts) (stamp : Stamp) (e : Event) (identifier : Option (List ℕ)) → stamp_of w.declared e ≡ Some stamp
+      → Passes w (watermark w s.kept.fed) identifiers identifier stamp.time s.kept.memory false
       → counts.lines ≡ old.counts.lines → counts.unread ≡ old.counts.unread → CountsIf true old.counts.doubles counts.doubles
-      → Goes w old (record old { identifiers = identifiers; counts = counts }) (recorded w s old.counts.lines line x) false (is_left_out w s (Ok x))
-  record_left identifiers counts stamp x is passes lines unread doubles =
+      → Goes w old (record old { identifiers = identifiers; counts = counts }) (recorded w s old.counts.lines line (by_key e identifier)) false (is_left_out w s (Ok (by_key e identifier)))
+  record_left identifiers counts stamp e identifier is passes lines unread doubles =
+      let x = by_key e identifier in
       let k = s.kept in
       let n = old.counts.lines in
       let new : RowTurns = record old { identifiers = identifiers; counts = counts } in

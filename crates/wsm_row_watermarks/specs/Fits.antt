@@ -4,6 +4,7 @@ use Rattle.wsm_admission.specs.Admission.{counter}
 use Rattle.wsm_admission.specs.Clock.{fits_declared}
 use Rattle.wsm_csv.specs.EventReader.{event_read, fits_read}
 use Rattle.wsm_turns.specs.Known.{Remembers}
+use Rattle.wsm_turns.specs.declared.voice.Voice.TheVariants.{Key}
 use Rattle.wsm_turns.specs.Turns.{Setting, Spoken, watermark}
 use Rattle.wsm_turns.specs.Waits.{Hear}
 use Rattle.wsm_row_watermarks.specs.Handed.{Serves}
@@ -38,9 +39,9 @@ pub record Begins (w : Setting) (t : RowTurns) (s : State) (text : List ℕ) : T
   pub number : t.handed.number ≡ t.counts.lines
   pub few : length s.kept.stamps < t.counts.lines
 
--- what was read last
+-- what was read last, on the clock of its key
 abbrev pub spoken_read : RowTurns → Spoken
-spoken_read t = record { event = event_read t.events; identifier = some_text t.row.identifier.items }
+spoken_read t = record { event = event_read t.events; identifier = some_text t.row.identifier.items; voice = Key }
 
 -- whether its values fit is known
 abbrev pub IsJudged : RowTurns → Type 0

@@ -10,7 +10,7 @@ use Rattle.wsm_row_watermarks.specs.Turns.{text}
 -- two keys agree, 20 behind and in steps of 10; a record that is more than 100 ahead waits. KEYS a, b, c; FIELD n INT 0..9
 abbrev setting : Setting
 setting = record {
-  clocks = Some (record { rule = record { agree = 2; forget = 1000; bound = 20; step = 10; start = 0 }; ahead = 100; room = 9 });
+  clocks = Some (record { rule = record { agree = 2; forget = 1000; bound = 20; step = 10; start = 0 }; ahead = 100; room = 9; named = None });
   declared = record { keys = codes "a" ∷ codes "b" ∷ codes "c" ∷ []; fields = record { name = codes "n"; type = Int (pos 0) (pos 9) } ∷ []; sources = [] };
   clock = record { start = pos 0; skew = pos 100; lateness = pos 10; from_window = false; records = pos 1000 };
   shape = Fixed (pos 60);

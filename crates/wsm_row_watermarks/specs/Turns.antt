@@ -10,6 +10,7 @@ use Rattle.wsm_admission.specs.Admission.{counter}
 use Rattle.wsm_admission.specs.Clock.{is_source, late_count, source_mark}
 use Rattle.wsm_log_rows.specs.Rows.{event_row}
 use Rattle.wsm_turns.specs.declared.clocks.Clocks.{Clocks}
+use Rattle.wsm_turns.specs.declared.voice.Voice.TheVariants.{Key}
 use Rattle.wsm_turns.specs.Numbered.{Numbered}
 use Rattle.wsm_turns.specs.Heard.{heard}
 use Rattle.wsm_turns.specs.Noted.{noted_by, raised}
@@ -90,7 +91,7 @@ abbrev pub recorded : Setting → State → ℕ → Line → Spoken → RowTurn
 recorded w s number line x = recorded_by w s number line (turn_by (setting_in w s) s.kept number (stamp_of w.declared x.event) x)
 
 abbrev pub turn_at : Setting → State → ℕ → Line → Option (List ℕ) → Event → RowTurn
-turn_at w s number line identifier (Record key time values) = recorded w s number line (record { event = Record key time values; identifier = identifier })
+turn_at w s number line identifier (Record key time values) = recorded w s number line (record { event = Record key time values; identifier = identifier; voice = Key })
 turn_at w s number line identifier (Watermark source time) = marked w s number line (Watermark source time) (told_at source time)
 
 -- the turn of the line of a number: one that is no row goes on as it is

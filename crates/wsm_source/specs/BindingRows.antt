@@ -17,6 +17,7 @@ use Rattle.wsm_values.specs.declared.zone.Zone.TheVariants.{Utc}
 use Rattle.wsm_description.specs.KeyPart.{entry_of}
 use Rattle.wsm_description.specs.declared.description.DecimalDescription.{DecimalDescription}
 use Rattle.wsm_description.specs.declared.description.DefaultValue.TheVariants as default
+use Rattle.wsm_description.specs.declared.description.ClockDescription.{ClockDescription}
 use Rattle.wsm_description.specs.declared.description.Description.{Description}
 use Rattle.wsm_description.specs.declared.description.FieldDescription.{FieldDescription}
 use Rattle.wsm_description.specs.declared.description.FormDescription.TheVariants.{Instant}
@@ -87,6 +88,7 @@ json_source = record {
         default = None;
       } ∷ [];
   identifier = None;
+  clock = None;
 }
 
 json : bound (says Json (codes "/customer/id") (File (codes "names.csv") (Some (codes "web"))) (plan_said ∷ amount_said ∷ []))
@@ -95,7 +97,7 @@ json : bound (says Json (codes "/customer/id") (File (codes "names.csv") (Some (
 unfolding is_utf8 chars encode_utf8
 json = refl
 
--- ---- CSV: the columns are the key's, the time's, those of the fields, and the identifier's
+-- ---- CSV: the columns are the key's, the time's, those of the fields, the identifier's, and the clock's
 
 abbrev csv_source : Source
 csv_source = record {
@@ -107,12 +109,31 @@ csv_source = record {
       record { at = Column 2; kind = kind.Whole; default = None }
       ∷ record { at = Column 3; kind = kind.Enum (entry_with (codes "free") 0 ∷ entry_with (codes "big") 1 ∷ []); default = None } ∷ [];
   identifier = Some (Column 4);
+  clock = None;
 }
 
 csv : bound (record (says (Csv 59) (codes "who") Same []) { identifier = Some (codes "nr") }) (query (amount ∷ plan ∷ [])) Utc []
     ≡ Ok csv_source
 unfolding is_utf8 chars encode_utf8
 csv = refl
+
+-- a clock whose name stands in a column
+abbrev named : ClockDescription
+named = record { agree = 2; bound = 60; step = 1; forget = 1000; room = 9; named = Some (record { at = codes "till"; most = 90 }) }
+
+abbrev tills : List (List ℕ) → ℕ → Source
+tills columns number =
+    record csv_source { format = lines.Csv (record { separator = 59; names = columns }); identifier = None; clock = Some (Column number) }
+
+csv_clock : bound (record (says (Csv 59) (codes "who") Same []) { clock = Some named }) (query (amount ∷ plan ∷ [])) Utc []
+    ≡ Ok (tills (codes "who" ∷ codes "time" ∷ codes "amount" ∷ codes "plan" ∷ codes "till" ∷ []) 4)
+unfolding is_utf8 chars encode_utf8
+csv_clock = refl
+
+both : bound (record (says (Csv 59) (codes "who") Same []) { identifier = Some (codes "nr"); clock = Some named }) (query (amount ∷ plan ∷ [])) Utc []
+    ≡ Ok (record (tills (codes "who" ∷ codes "time" ∷ codes "amount" ∷ codes "plan" ∷ codes "nr" ∷ codes "till" ∷ []) 5) { identifier = Some (Column 4) })
+unfolding is_utf8 chars encode_utf8
+both = refl
 
 -- ---- rows: the key, the time and the fields stand behind the tag
 
@@ -126,6 +147,7 @@ rows_source = record {
       record { at = Column 3; kind = kind.Whole; default = None }
       ∷ record { at = Column 4; kind = kind.Enum (entry_with (codes "free") 0 ∷ entry_with (codes "big") 1 ∷ []); default = None } ∷ [];
   identifier = None;
+  clock = None;
 }
 
 rows : bound (says Rows (codes "key") Same []) (query (amount ∷ plan ∷ [])) Utc [] ≡ Ok rows_source
@@ -142,6 +164,7 @@ access_source = record {
   time = record { at = Column 3; form = forms.Instant; unit = Seconds };
   fields = record { at = Column 6; kind = kind.Whole; default = None } ∷ [];
   identifier = None;
+  clock = None;
 }
 
 abbrev by_path : KeyNaming
@@ -222,6 +245,10 @@ no_part = refl
 no_part_of_an_identifier : bound (record (says Access (codes "path") Same []) { identifier = Some (codes "nr") }) (query []) Utc []
     ≡ Err (Fault BadWord (codes "identifier.at"))
 no_part_of_an_identifier = refl
+
+no_part_of_a_clock : bound (record (says Access (codes "path") Same []) { clock = Some named }) (query []) Utc []
+    ≡ Err (Fault BadWord (codes "clock.at"))
+no_part_of_a_clock = refl
 
 no_pointer : key_fault Json (codes "/a~2") Same [] ≡ Err (Fault BadWord (codes "key.at"))
 no_pointer = refl

@@ -50,7 +50,7 @@ place_of Access column within at = cell_place within at
 place_of (Csv separator) column within at = Ok (Column column)
 place_of Rows column within at = Ok (Column (column + 1))
 
--- where a record has its identifier, if a place of it is said
-abbrev pub identifier_place : Format → ℕ → Option (List ℕ) → Result (Option Place) Refusal
-identifier_place format column None = Ok None
-identifier_place format column (Some at) = on_ok (place_of format column (codes "identifier") at) (λ place. Ok (Some place))
+-- where a value stands of which a place may be said
+abbrev pub place_if : Format → ℕ → List ℕ → Option (List ℕ) → Result (Option Place) Refusal
+place_if format column within None = Ok None
+place_if format column within (Some at) = on_ok (place_of format column within at) (λ place. Ok (Some place))

@@ -1,14 +1,17 @@
 //! A source, bound to a query.
 
-ghost use Rattle.std.specs.Prelude.{◌≡◌, ◌⊎◌, ◌+◌, ◌<◌, ◌^◌, [], IfOk, IfErr, Ok, Err, map};
+ghost use Rattle.std.specs.Prelude.{◌≡◌, ◌⊎◌, ◌+◌, ◌<◌, ◌^◌, [], ◌++◌, ◌∷◌, IfOk, IfErr, OnOk, Ok, Err, map, option_map};
 ghost use Rattle.wsm_record.specs.Fields.{field_seen};
-ghost use Rattle.wsm_source.specs.Binding.{place_said, identifier_column, columns_of, format_with, bound};
+ghost use Rattle.wsm_source.specs.Binding.{place_said, identifier_column, clock_column, clock_said, columns_of, format_with, with_column, bound};
 
 use crate::field_binding::{described_field, fields_of, require_declared};
 use crate::key_binding::{key_form, time_at};
-use crate::place_part::{identifier_place, text_or_none};
-use std::alloc::Global;
-use wsm_description::{Description, FieldDescription, Format, Refusal, SourceFault, refuse};
+use crate::place_part::{place_if, text_or_none};
+use std::alloc::{AllocError, Global};
+use wsm_description::{
+    ClockDescription, Description, FieldDescription, Format, NamedClocks, Refusal, SourceFault,
+    refuse,
+};
 use wsm_lines::{CsvForm, Fields, Source, Words};
 use wsm_record::{DeclaredField, Schema};
 use wsm_values::{Word, Zone};
@@ -40,6 +43,57 @@ fn identifier_column(declared: &[DeclaredField]) -> usize
     declared.len() + 2
 }
 
+// The number of the column that a CSV is asked for the clock, behind that of the identifier, if there is one.
+fn clock_column(identifier: &Option<Word>, declared: &[DeclaredField]) -> usize
+    ensures value { result ≡ clock_column identifier.now (map field_seen declared.now) }
+    ensures few { result + 1 < 2 ^ 64 }
+{
+    match identifier {
+        Some(_) => declared.len() + 3,
+        None => declared.len() + 2,
+    }
+}
+
+// Where a record has its identifier, if that is said.
+fn identifier_said(identifier: &Option<Word>) -> Option<&str>
+    ensures { option_map (λ s. s.now) result ≡ identifier.now }
+{
+    match identifier {
+        Some(at) => Some(at.as_str()),
+        None => None,
+    }
+}
+
+// Where lines name the clocks of their records, if that is said.
+fn clock_said(clock: &Option<ClockDescription>) -> Option<&str>
+    ensures { option_map (λ s. s.now) result ≡ clock_said clock.now }
+{
+    match clock {
+        Some(clock) => place_named(&clock.named),
+        None => None,
+    }
+}
+
+// Where clocks are named, if they are.
+fn place_named(named: &Option<NamedClocks>) -> Option<&str>
+    ensures { option_map (λ s. s.now) result ≡ option_map (λ n. n.at) named.now }
+{
+    match named {
+        Some(named) => Some(named.at.as_str()),
+        None => None,
+    }
+}
+
+// Adds a column behind those that a CSV is asked for, if its place is said.
+fn add_column(alloc: Global, at: Option<&str>, names: &mut Vec<Word>) -> Result<(), AllocError>
+    ensures { OnOk result (names.new.items ≡ with_column (option_map (λ s. s.now) at.entry) names.old.items) }
+{
+    match at {
+        Some(at) => Ok(names.push(Word::new(alloc, at)?)?),
+        None => Ok(()),
+    }
+}
+
 // The columns that a CSV is asked for.
 fn columns_of(
     alloc: Global,
@@ -55,9 +109,8 @@ fn columns_of(
     for field in declared {
         names.push(place_said(alloc, description.fields.items(), field)?)?;
     }
-    if let Some(at) = &description.identifier {
-        names.push(Word::new(alloc, at.as_str())?)?;
-    }
+    add_column(alloc, identifier_said(&description.identifier), &mut names)?;
+    add_column(alloc, clock_said(&description.clock), &mut names)?;
     Ok(Words::new(names))
 }
 
@@ -107,7 +160,11 @@ pub fn bind(
     let time = time_at(alloc, format, zone, &description.time)?;
     let fields = fields_of(alloc, format, said, declared)?;
     let column = identifier_column(declared);
-    let identifier = identifier_place(alloc, format, column, &description.identifier)?;
+    let at = identifier_said(&description.identifier);
+    let identifier = place_if(alloc, format, column, "identifier", at)?;
+    let column = clock_column(&description.identifier, declared);
+    let at = clock_said(&description.clock);
+    let clock = place_if(alloc, format, column, "clock", at)?;
     let format = format_with(alloc, description, declared)?;
     Ok(Source {
         format,
@@ -116,5 +173,6 @@ pub fn bind(
         time,
         fields: Fields::new(fields),
         identifier,
+        clock,
     })
 }

@@ -9,7 +9,8 @@ pub use binding::bind;
 pub use wsm_description::{
     ClockDescription, DecimalDescription, DefaultValue, Description, Entries, Entry,
     FieldDescription, FieldDescriptions, FormDescription, Format, KeyDescription, KeyNaming,
-    Position, Refusal, Refused, SourceFault, SourceRefusal, TimeDescription, Truths, describe,
+    NamedClocks, Position, Refusal, Refused, SourceFault, SourceRefusal, TimeDescription, Truths,
+    describe,
 };
 
 mod binding;

@@ -1,8 +1,8 @@
 //! Where a value stands in a line, by its format.
 
-ghost use Rattle.std.specs.Prelude.{◌≡◌, ◌⊎◌, ◌+◌, ◌<◌, ◌^◌, if◌then◌else◌, IfOk, IfErr, Ok, Err, Some, None};
+ghost use Rattle.std.specs.Prelude.{◌≡◌, ◌⊎◌, ◌+◌, ◌<◌, ◌^◌, if◌then◌else◌, IfOk, IfErr, Ok, Err, Some, None, option_map};
 ghost use Rattle.wsm_source.specs.Pointers.{text_or_none, start, end_name, escape, step, finish, pointer_of, path_of};
-ghost use Rattle.wsm_source.specs.Places.{request_cell, cell_named, path_place, cell_place, place_of, identifier_place};
+ghost use Rattle.wsm_source.specs.Places.{request_cell, cell_named, path_place, cell_place, place_of, place_if};
 
 use std::alloc::{AllocError, Global};
 use std::marker::Model;
@@ -229,19 +229,20 @@ pub fn place_of(
     }
 }
 
-/// Where a record has its identifier, if a place of it is said.
-pub fn identifier_place(
+/// Where a value stands of which a place may be said.
+pub fn place_if(
     alloc: Global,
     format: Format,
     column: usize,
-    at: &Option<Word>,
+    section: &str,
+    at: Option<&str>,
 ) -> Result<Option<Place>, Refusal>
     requires { column + 1 < 2 ^ 64 }
-    ensures ok { IfOk result (λ place. identifier_place format column at.now ≡ Ok place) }
-    ensures fault { IfErr result (λ r. (r ≡ Refusal.Memory) ⊎ (identifier_place format column at.now ≡ Err r)) }
+    ensures ok { IfOk result (λ place. place_if format column section.now (option_map (λ s. s.now) at.entry) ≡ Ok place) }
+    ensures fault { IfErr result (λ r. (r ≡ Refusal.Memory) ⊎ (place_if format column section.now (option_map (λ s. s.now) at.entry) ≡ Err r)) }
 {
     match at {
-        Some(at) => Ok(Some(place_of(alloc, format, column, "identifier", at.as_str())?)),
+        Some(at) => Ok(Some(place_of(alloc, format, column, section, at)?)),
         None => Ok(None),
     }
 }

@@ -25,13 +25,16 @@ use Rattle.wsm_doubles.specs.Passing.{SentText, TextPassing, Told, passes}
 use Rattle.wsm_doubles.proofs.Forgotten.{live-live}
 use Rattle.wsm_turns.specs.declared.clocks.Clocks.{Clocks}
 use Rattle.wsm_turns.specs.Numbered.{Numbered, timed}
-use Rattle.wsm_turns.specs.Turns.{Kept, Said, Setting, Spoken, going, is_double, kept, noted, numbered, passing, setting_of, stamp_of, stamped, turn_by}
+use Rattle.wsm_turns.specs.declared.voice.Voice.{Voice}
+use Rattle.wsm_turns.specs.declared.voice.Voice.TheVariants.{Key, Named, Silent}
+use Rattle.wsm_turns.specs.Voices.{stamp_by}
+use Rattle.wsm_turns.specs.Turns.{Kept, Said, Setting, Spoken, going, is_double, kept, noted, numbered, passing, passing_by, setting_of, stamp_of, stamped, turn_by, unstamped}
 use Rattle.wsm_turn_laws.specs.Delivered.{Suits, AllLeaveMark, delivered, identifier_at, identifier_by, identifier_of, LeavesMark, records_of, sent_of}
 use Rattle.wsm_turn_laws.proofs.Counts.{count-append, count-cons, one_if}
 use Rattle.wsm_turn_laws.proofs.Following.{Follows, OwnNumbers, follows_double, follows_on, follows_still, is_there, kept_noted, kept_own, may_come, not_there, untag}
 use Rattle.wsm_turn_laws.proofs.Moves.{at_most, moves_behind, moves_live}
 use Rattle.wsm_turn_laws.proofs.Passing.{goes_alone}
-use Rattle.wsm_turn_laws.proofs.Standing.{GoesOn, IsRow, held, sent, sent_alone, sent_time, times}
+use Rattle.wsm_turn_laws.proofs.Standing.{GoesOn, IsRow, held, sent, sent_alone, sent_event, sent_time, times}
 use Rattle.wsm_turn_laws.proofs.Taking.{takes}
 
 -- ---- identifiers
@@ -69,6 +72,11 @@ own_of : (m n : ℕ) (identifier : Option (List ℕ)) (stamp : Option Stamp) →
 own_of m n (Some i) (Some stamp) less = refl
 own_of m n None (Some stamp) less = other m n less
 own_of m n identifier None less = other m n less
+
+-- which clock it is makes no other identifier
+of_clock : (n : ℕ) (a b : Stamp) (identifier : Option (List ℕ)) → identifier_by n (Some a) identifier ≡ identifier_by n (Some b) identifier
+of_clock n a b (Some i) = refl
+of_clock n a b None = refl
 
 -- ---- times
 
@@ -192,14 +200,44 @@ module _ (own_numbers : OwnNumbers) (q : Query) (c : Clocks) (name : ℕ → Lis
         omega (arith, is, no, rest))
         refl refl ready_after.sorted ready_after.ahead ready.mark (λ time_of timed. ((may_come q name c.rule own_numbers count records k (sent q name row) h (held_none (name n) k h.passing none) time_of timed, tt), timed.2))
 
-    follows_passing : Follows q name c.rule (count + 1) (sent q name row ∷ records) (passing setting k (count + 1) stamp x).kept
+    -- it tells no time, so it goes on at once
+    follows_unstamped : is_double x.identifier k.memory ≡ false → Follows q name c.rule (count + 1) (sent q name row ∷ records) (unstamped setting k (count + 1) stamp.time x).kept
+    follows_unstamped new =
+        let n : ℕ = count + 1 in
+        let g : Numbered = record { number = n; event = x.event } in
+        let none : times (name n) all ≡ 0 = subst (λ (i : List ℕ). times i all ≡ 0) (sym names) (not_there x.identifier n stamp k.memory all h.same (h.own n (omega arith)) new) in
+        let time : (sent q name row).time ≡ pos stamp.time = sent_time (name n) row of_time in
+        follows_on q name c.rule ok.shape ok.lateness count records k (unstamped setting k n stamp.time x).kept (sent q name row ∷ []) (g ∷ []) (noted x.identifier stamp.time k.memory) h
+        (goes_alone q name (sent q name row) g h.deliveries h.passing h.doubles k.waits k.told h.is h.stands none (sym (sent_event (name n) x.event at.key (pos stamp.time) at.values at.is)))
+        (λ p. kept_noted x.identifier n stamp stamp.time k.memory all h.same p ∙ (λ j. count_by (untag p) ((sym names j, sym time j) ∷ all)))
+        (λ m more.
+        let is = count-cons (λ e. bytes_eq (1 ∷ m ∷ []) e.0) (name n, (sent q name row).time) all in
+        let other : bytes_eq (1 ∷ m ∷ []) (name n) ≡ false = ap (bytes_eq (1 ∷ m ∷ [])) names ∙ own_of n m x.identifier (Some stamp) more in
+        let no : one_if (bytes_eq (1 ∷ m ∷ []) (name n)) ≡ 0 = ap one_if other in
+        let rest = h.own m (omega (arith, more)) in
+        omega (arith, is, no, rest))
+        refl refl h.sorted h.ahead h.told (λ time_of timed. ((may_come q name c.rule own_numbers count records k (sent q name row) h (held_none (name n) k h.passing none) time_of timed, tt), timed.2))
+
+  -- by the clock of its key, by one that its line names, or by none
+  module _ (count : ℕ) (records : List SentText) (k : Kept) (stamp : Stamp) (x : Spoken) (h : Follows q name c.rule count records k) (at : IsAt stamp.time x.event) (names : name (count + 1) ≡ identifier_by (count + 1) (Some stamp) x.identifier) where
+    abbrev delivery : SentText
+    delivery = sent q name (timed stamp.time (count + 1) x.event)
+
+    follows_voiced : (voice : Voice) → is_double x.identifier k.memory ≡ false → Follows q name c.rule (count + 1) (delivery ∷ records) (passing_by setting k (count + 1) (stamp_by voice stamp) stamp.time x).kept
+    follows_voiced Key new = follows_stamped count records k stamp x h at names new
+    follows_voiced (Named clock) new =
+        let told : Stamp = record { clock = clock; time = stamp.time } in
+        follows_stamped count records k told x h (record { key = at.key; values = at.values; is = at.is }) (names ∙ of_clock (count + 1) stamp told x.identifier) new
+    follows_voiced Silent new = follows_unstamped count records k stamp x h at names new
+
+    follows_passing : Follows q name c.rule (count + 1) (delivery ∷ records) (passing setting k (count + 1) stamp x).kept
     follows_passing = either (is_double x.identifier k.memory) refl
       where
-        either : (b : Bool) → is_double x.identifier k.memory ≡ b → Follows q name c.rule (count + 1) (sent q name row ∷ records) (cond b (record { goes = []; kept = k }) (stamped setting k (count + 1) stamp x)).kept
-        either false new = follows_stamped new
+        either : (b : Bool) → is_double x.identifier k.memory ≡ b → Follows q name c.rule (count + 1) (delivery ∷ records) (cond b (record { goes = []; kept = k }) (passing_by setting k (count + 1) (stamp_by x.voice stamp) stamp.time x)).kept
+        either false new = follows_voiced x.voice new
         either true known =
-            follows_double q name c.rule own_numbers count records k (sent q name row) h
-            (subst (λ (i : List ℕ). 0 < times i all) (sym names) (is_there x.identifier (count + 1) stamp k.memory all h.same known))
+            follows_double q name c.rule own_numbers count records k delivery h
+            (subst (λ (i : List ℕ). 0 < times i (held q name k.waits ++ h.passing.memory)) (sym names) (is_there x.identifier (count + 1) stamp k.memory (held q name k.waits ++ h.passing.memory) h.same known))
 
   follows_turn : (count : ℕ) (records : List SentText) (k : Kept) (x : Spoken) (o : Option Stamp) → stamp_of q.declared x.event ≡ o → Follows q name c.rule count records k → LeavesMark x.event
       → name (count + 1) ≡ identifier_by (count + 1) o x.identifier → Follows q name c.rule (count + 1) (sent_of (name (count + 1)) x.event ++ records) (turn_by setting k (count + 1) o x).kept

@@ -7,12 +7,13 @@ use Rattle.wsm_semantics.specs.Query.{Query}
 use Rattle.wsm_semantics.specs.Rows.{base}
 use Rattle.wsm_doubles.specs.Passing.{SentText, TextDelivery, Comes, Told, passing_texts}
 use Rattle.wsm_turns.specs.declared.clocks.Clocks.{Clocks}
+use Rattle.wsm_turns.specs.declared.voice.Voice.TheVariants.{Key}
 use Rattle.wsm_turns.specs.Turns.{Said as AnySaid, at_end, fed_with, kept, setting_of}
 use Rattle.wsm_turn_laws.specs.Delivered.{delivered}
 
 -- two clocks agree, 20 behind and in steps of 10; a record that is more than 100 ahead waits, with room for so many
 abbrev clocks : ℕ → Clocks
-clocks room = record { rule = record { agree = 2; forget = 1000; bound = 20; step = 10; start = 0 }; ahead = 100; room = room }
+clocks room = record { rule = record { agree = 2; forget = 1000; bound = 20; step = 10; start = 0 }; ahead = 100; room = room; named = None }
 
 -- KEYS a, b, c; START start; SKEW 100; LATENESS 10, and windows of 60
 abbrev declared : Declared
@@ -26,11 +27,11 @@ Said = AnySaid (Unit {0})
 
 -- a record of a key at a time, with an identifier of one byte
 abbrev i : ℕ → ℕ → ℕ → Said
-i byte key time = Ok (record { event = Record (Some key) (pos time) []; identifier = Some (byte ∷ []) })
+i byte key time = Ok (record { event = Record (Some key) (pos time) []; identifier = Some (byte ∷ []); voice = Key })
 
 -- a watermark of the first source
 abbrev w : ℕ → Said
-w time = Ok (record { event = Watermark (Some 0) (pos time); identifier = None })
+w time = Ok (record { event = Watermark (Some 0) (pos time); identifier = None; voice = Key })
 
 -- what a query is fed of lines, and to the end of them
 abbrev fed : ℕ → ℤ → List Said → List Event

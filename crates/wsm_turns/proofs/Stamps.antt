@@ -1,5 +1,5 @@
 -- The stamps of what was said.
-use Rattle.std.proofs.Common.{◌≡◌, ℕ, suc, ◌+◌, ◌<◌, ◌≤◌, ◌^◌, Bool, true, false, ◌&&◌, List, [], ◌∷◌, length, Option, Some, None, Ok, Err, refl, ap, arith}
+use Rattle.std.proofs.Common.{◌≡◌, ℕ, suc, ◌+◌, ◌<◌, ◌≤◌, ◌^◌, Bool, true, false, ◌&&◌, List, [], ◌∷◌, length, Option, Some, None, Ok, Err, refl, sym, ap, arith}
 use Rattle.std.specs.Prelude.{if◌then◌else◌, nat_lt, unsigned_abs}
 use Rattle.std.proofs.lemmas.Bool.{and_parts}
 use Rattle.std.proofs.lemmas.Int.{ints}
@@ -9,18 +9,25 @@ use Rattle.wsm_record.specs.Schema.{Declared, fit_fields}
 use Rattle.wsm_windows.specs.Limits.{is_time}
 use Rattle.wsm_admission.specs.Clock.{is_key}
 use Rattle.wsm_watermarks.specs.declared.stamp.Stamp.{Stamp}
-use Rattle.wsm_turns.specs.Turns.{Kept, Said, Setting, Spoken, Turn, is_double, kept, stamp_of, stamped, turn_by}
+use Rattle.wsm_turns.specs.declared.voice.Voice.{Voice}
+use Rattle.wsm_turns.specs.declared.voice.Voice.TheVariants.{Key, Named, Silent}
+use Rattle.wsm_turns.specs.Voices.{stamp_by}
+use Rattle.wsm_turns.specs.Turns.{Kept, Said, Setting, Spoken, Turn, is_double, kept, passing_by, stamp_of, turn_by}
 
 -- the turn of a record that is a double, or isn't
 abbrev passing_if : Bool → Setting → Kept → ℕ → Stamp → Spoken → Turn
-passing_if b w k number stamp x = if b then record { goes = []; kept = k } else stamped w k number stamp x
+passing_if b w k number stamp x = if b then record { goes = []; kept = k } else passing_by w k number (stamp_by x.voice stamp) stamp.time x
 
--- a turn adds one at most
+few_told : (w : Setting) (k : Kept) (number : ℕ) (o : Option Stamp) (time : ℕ) (x : Spoken) (n : ℕ) → length k.stamps ≤ n → length (passing_by w k number o time x).kept.stamps ≤ suc n
+few_told w k number None time x n h = omega (arith, h)
+few_told w k number (Some stamp) time x n h = let g : suc (length k.stamps) ≤ suc n = omega (arith, h) in g
+
 few_passing : (w : Setting) (k : Kept) (number : ℕ) (stamp : Stamp) (x : Spoken) (b : Bool) (n : ℕ) → length k.stamps ≤ n →
     length (passing_if b w k number stamp x).kept.stamps ≤ suc n
 few_passing w k number stamp x true n h = omega (arith, h)
-few_passing w k number stamp x false n h = let g : suc (length k.stamps) ≤ suc n = omega (arith, h) in g
+few_passing w k number stamp x false n h = few_told w k number (stamp_by x.voice stamp) stamp.time x n h
 
+-- the turn of an event adds one at most
 pub few_by : (w : Setting) (k : Kept) (number : ℕ) (o : Option Stamp) (x : Spoken) (n : ℕ) → length k.stamps ≤ n → length (turn_by w k number o x).kept.stamps ≤ suc n
 few_by w k number None x n h = omega (arith, h)
 few_by w k number (Some stamp) x n h = few_passing w k number stamp x (is_double x.identifier k.memory) n h
@@ -54,3 +61,13 @@ time_small d (Record (Some key) time values) stamp h =
     let same : unsigned_abs time ≡ stamp.time = ap (λ (s : Stamp). s.time) is in
     grind (arith, ints, nat_tests)
 time_small d (Watermark source time) stamp h = cc
+
+abbrev time_in : Stamp → Option Stamp → ℕ
+time_in stamp None = stamp.time
+time_in stamp (Some told) = told.time
+
+-- whatever its voice is, it tells its time
+pub told_time : (voice : Voice) (stamp told : Stamp) → stamp_by voice stamp ≡ Some told → told.time ≡ stamp.time
+told_time Key stamp told h = sym (ap (time_in stamp) h)
+told_time (Named clock) stamp told h = sym (ap (time_in stamp) h)
+told_time Silent stamp told h = sym (ap (time_in stamp) h)

@@ -1,9 +1,10 @@
--- Worked rows: what clocks come to, and how many records are left out. Lines are written oldest first.
+-- Worked rows: what clocks come to, how many records are left out, and how many have no voice. Lines are written oldest first.
 use Rattle.std.specs.Prelude.{◌≡◌, refl, List, [], ◌∷◌, reverse, Option, Some, None}
 use Rattle.wsm_turns.specs.declared.clocks.Clocks.{Clocks}
 use Rattle.wsm_turns.specs.declared.heard.Heard.{Heard}
-use Rattle.wsm_turns.specs.TurnRows.{Said, clocks, i, r, setting}
-use Rattle.wsm_turns.specs.Heard.{heard, left_count}
+use Rattle.wsm_turns.specs.declared.voice.Voice.TheVariants.{Named, Silent}
+use Rattle.wsm_turns.specs.TurnRows.{Said, clocks, i, r, setting, v}
+use Rattle.wsm_turns.specs.Heard.{heard, left_count, silent_count}
 use Rattle.wsm_turns.specs.Turns.{kept}
 
 abbrev after : Option Clocks → List Said → Option Heard
@@ -37,3 +38,10 @@ twice = i 1 0 100 ∷ i 1 0 100 ∷ r 0 90 ∷ i 1 1 90 ∷ i 1 7 90 ∷ []
 
 two_are_left_out : left_count (setting None) (reverse twice) ≡ 2
 two_are_left_out = refl
+
+-- of two that a line names one is silent
+one_speaks_of_two : after (Some (clocks 9)) (v (Named 0) 10 ∷ v Silent 20 ∷ []) ≡ Some (record { agree = 2; voices = 1; stamps = 1; waiting = 0 })
+one_speaks_of_two = refl
+
+one_is_silent : silent_count (v (Named 0) 10 ∷ v Silent 20 ∷ r 0 30 ∷ []) ≡ 1
+one_is_silent = refl

@@ -1,5 +1,8 @@
 pub mod Numbered
 pub mod Clocks
+pub mod Voices
+pub mod VoiceRows
+pub mod Named
 pub mod Turns
 pub mod TurnRows
 pub mod Heard

@@ -5,12 +5,14 @@ use Rattle.wsm_record.specs.Schema.{Declared}
 use Rattle.wsm_windows.specs.declared.window.Shape.TheVariants.{Fixed}
 use Rattle.wsm_admission.specs.declared.clock.Clock.{Clock}
 use Rattle.wsm_turns.specs.declared.clocks.Clocks.{Clocks}
+use Rattle.wsm_turns.specs.declared.voice.Voice.{Voice}
+use Rattle.wsm_turns.specs.declared.voice.Voice.TheVariants.{Key, Named, Silent}
 use Rattle.wsm_turns.specs.Turns.{Said as AnySaid, Setting, at_end, kept, turn_of}
 use Rattle.wsm_turns.specs.Numbered.{Numbered}
 
 -- two clocks agree, 20 behind and in steps of 10; a record that is more than 100 ahead waits, with room for so many
 abbrev pub clocks : ℕ → Clocks
-clocks room = record { rule = record { agree = 2; forget = 1000; bound = 20; step = 10; start = 0 }; ahead = 100; room = room }
+clocks room = record { rule = record { agree = 2; forget = 1000; bound = 20; step = 10; start = 0 }; ahead = 100; room = room; named = None }
 
 -- KEYS a, b, c;
 abbrev declared : Declared
@@ -28,7 +30,7 @@ Said = AnySaid (Unit {0})
 
 -- a record of a key at a time
 abbrev pub r : ℕ → ℕ → Said
-r key time = Ok (record { event = Record (Some key) (pos time) []; identifier = None })
+r key time = Ok (record { event = Record (Some key) (pos time) []; identifier = None; voice = Key })
 
 abbrev rec : ℕ → ℕ → ℕ → Numbered
 rec number key time = record { number = number; event = Record (Some key) (pos time) [] }
@@ -77,7 +79,7 @@ none_waits = refl
 
 -- the same with an identifier of one byte
 abbrev pub i : ℕ → ℕ → ℕ → Said
-i byte key time = Ok (record { event = Record (Some key) (pos time) []; identifier = Some (byte ∷ []) })
+i byte key time = Ok (record { event = Record (Some key) (pos time) []; identifier = Some (byte ∷ []); voice = Key })
 
 -- a double is left out, with another time and of another key too; what has no identifier goes on
 abbrev twice : List Said
@@ -110,3 +112,20 @@ times cs lines = map (λ k. unsigned_abs k.1) (kept (setting cs) (reverse lines)
 -- a record that waits is remembered as it comes, and one that can't be taken isn't
 it_is_remembered_as_it_waits : times (Some (clocks 9)) (i 1 0 100 ∷ i 2 1 90 ∷ i 3 2 86500 ∷ i 4 7 100 ∷ []) ≡ 86500 ∷ 90 ∷ 100 ∷ []
 it_is_remembered_as_it_waits = refl
+
+-- ---- clocks that lines name
+
+-- a record of key a at a time, by such a voice
+abbrev pub v : Voice → ℕ → Said
+v voice time = Ok (record { event = Record (Some 0) (pos time) []; identifier = None; voice = voice })
+
+-- two gateways agree on 90, though all is of one key; what has no voice tells no time, and goes on however far ahead it is
+abbrev voices : List Said
+voices = v (Named 0) 100 ∷ v Silent 86500 ∷ v (Named 7) 90 ∷ v (Named 0) 130 ∷ []
+
+they_agree : went (Some (clocks 9)) voices ≡ (rec 1 0 100 ∷ []) ∷ (rec 2 0 86500 ∷ []) ∷ (mark 3 70 ∷ rec 3 0 90 ∷ []) ∷ (rec 4 0 130 ∷ []) ∷ []
+they_agree = refl
+
+-- it is remembered all the same
+the_silent_is_remembered : times (Some (clocks 9)) (Ok (record { event = Record (Some 0) (pos 100) []; identifier = Some (1 ∷ []); voice = Silent }) ∷ i 1 1 90 ∷ []) ≡ 100 ∷ []
+the_silent_is_remembered = refl

@@ -1,7 +1,7 @@
 -- What lines come to, one behind the other: the events that go on, in their order. A history of lines has the newest first. A record of
--- a declared key with values that fit tells a time; its key is its clock. Clocks make watermarks of those times; a record that is too far
--- ahead of them waits, and goes on later. One whose identifier came before is left out, until a record of its time would be late. The
--- rules are this project's own; a watermark is that of Akidau et al. 2015.
+-- a declared key with values that fit tells a time; its clock is its key, or one that its line names. Clocks make watermarks of those
+-- times; a record that is too far ahead of them waits, and goes on later. One whose identifier came before is left out, until a record of
+-- its time would be late. The rules are this project's own; a watermark is that of Akidau et al. 2015.
 use Rattle.std.specs.Prelude.{ℕ, ◌+◌, min, Bool, false, ◌&&◌, List, [], ◌∷◌, length, map, ℤ, pos, Option, Some, None, Result, Ok, Err, unsigned_abs, if◌then◌else◌}
 use Rattle.wsm_record.specs.declared.limits.TheConstants.{LATEST_TIME}
 use Rattle.wsm_record.specs.Event.{Event, Record, Watermark}
@@ -17,25 +17,33 @@ use Rattle.wsm_watermarks.specs.Held.{Item, Mark, Passed, Went, went_on}
 use Rattle.wsm_semantics.specs.Query.{Query}
 use Rattle.wsm_doubles.specs.Memory.{Memory, knows, live}
 use Rattle.wsm_turns.specs.declared.clocks.Clocks.{Clocks}
+use Rattle.wsm_turns.specs.declared.voice.Voice.{Voice}
+use Rattle.wsm_turns.specs.declared.voice.Voice.TheVariants.{Key}
 use Rattle.wsm_turns.specs.Numbered.{Numbered, timed}
+use Rattle.wsm_turns.specs.Voices.{stamp_by}
 
 -- ---- what lines say
 
--- an event, and the identifier of its record, if it has one
+-- an event, the identifier of its record, if it has one, and whose clock that tells its time by
 pub record Spoken : Type 0 where
   pub event : Event
   pub identifier : Option (List ℕ)
+  pub voice : Voice
 
 -- what a line says: an event, or a fault, by which it says none
 abbrev pub Said : Type 0 → Type 0
 Said Fault = Result Spoken Fault
 
--- an event with such an identifier, if there is one
-abbrev pub spoken : {Fault : Type 0} → Option (List ℕ) → Result Event Fault → Said Fault
-spoken identifier (Ok e) = Ok (record { event = e; identifier = identifier })
-spoken identifier (Err why) = Err why
+-- an event with such an identifier, if there is one, by such a voice
+abbrev pub spoken_by : {Fault : Type 0} → Option (List ℕ) → Voice → Result Event Fault → Said Fault
+spoken_by identifier voice (Ok e) = Ok (record { event = e; identifier = identifier; voice = voice })
+spoken_by identifier voice (Err why) = Err why
 
--- what an event says of time: a record of a declared key whose values fit and whose time is one. Its key is its clock
+-- the same by that of its key
+abbrev pub spoken : {Fault : Type 0} → Option (List ℕ) → Result Event Fault → Said Fault
+spoken identifier r = spoken_by identifier Key r
+
+-- what an event says of time: a record of a declared key whose values fit and whose time is one, on the clock of its key
 abbrev pub stamp_at : Declared → Option ℕ → ℤ → Bool → Option Stamp
 stamp_at d None time fit = None
 stamp_at d (Some key) time fit =
@@ -110,14 +118,23 @@ abbrev pub noted : Option (List ℕ) → ℕ → Memory → Memory
 noted None time memory = memory
 noted (Some i) time memory = (i, pos time) ∷ memory
 
--- the turn of a record with a stamp that passes
+-- the turn of a record that passes and tells its time by a stamp
 abbrev pub stamped : Setting → Kept → ℕ → Stamp → Spoken → Turn
 stamped w k number stamp x = let went = went_by w.clocks k stamp (timed stamp.time number x.event) in
     going w (record { stamps = stamp ∷ k.stamps; told = went.mark; waits = went.held; fed = k.fed; memory = noted x.identifier stamp.time k.memory }) (map (numbered number) went.out)
 
--- the turn of a record with a stamp: a double is left out, and tells no time
+-- that of one that passes at a time and tells none: it goes on at once
+abbrev pub unstamped : Setting → Kept → ℕ → ℕ → Spoken → Turn
+unstamped w k number time x = going w (record k { memory = noted x.identifier time k.memory }) (record { number = number; event = x.event } ∷ [])
+
+abbrev pub passing_by : Setting → Kept → ℕ → Option Stamp → ℕ → Spoken → Turn
+passing_by w k number None time x = unstamped w k number time x
+passing_by w k number (Some stamp) time x = stamped w k number stamp x
+
+-- the turn of a record with a stamp by its key: a double is left out, and tells no time
 abbrev pub passing : Setting → Kept → ℕ → Stamp → Spoken → Turn
-passing w k number stamp x = if is_double x.identifier k.memory then record { goes = []; kept = k } else stamped w k number stamp x
+passing w k number stamp x =
+    if is_double x.identifier k.memory then record { goes = []; kept = k } else passing_by w k number (stamp_by x.voice stamp) stamp.time x
 
 -- the turn of an event: what says nothing of time goes on at once
 abbrev pub turn_by : Setting → Kept → ℕ → Option Stamp → Spoken → Turn

@@ -3,13 +3,13 @@
 ghost use Rattle.std.specs.Prelude.{◌≡◌, ◌+◌, ◌≤◌, IfSome, pos, unsigned_abs};
 ghost use Rattle.wsm_record.specs.Event.{event_of};
 ghost use Rattle.wsm_admission.specs.Clock.{fits_declared};
-ghost use Rattle.wsm_turns.specs.Clocks.{IsClocks, IsRule};
+ghost use Rattle.wsm_turns.specs.Clocks.{AreClocks, IsClocks, IsRule, count_in, named_in};
 ghost use Rattle.wsm_turns.specs.Turns.{mark_at, stamp_of};
 
 use wsm_admission::has_fitting_values;
-use wsm_record::limits::LATEST_TIME;
+use wsm_record::limits::{LATEST_TIME, MAX_NAMES};
 use wsm_record::{Event, Schema};
-use wsm_watermarks::{MOST_AGREEING, MOST_HELD, Rule, Stamp};
+use wsm_watermarks::{MOST_AGREEING, MOST_CLOCKS, MOST_HELD, Rule, Stamp};
 use wsm_windows::is_time;
 
 /// The clocks of a log: how a watermark follows them, and which records wait for it.
@@ -21,6 +21,8 @@ pub struct Clocks {
     pub ahead: u64,
     /// How many records may wait.
     pub room: usize,
+    /// How many clocks lines may name. Where it isn't said the clock of a record is its key.
+    pub named: Option<usize>,
 }
 
 /// The rule by which a watermark goes that begins at START: so many clocks have to agree on a time, it stays so far behind
@@ -43,7 +45,8 @@ pub fn rule_of(agree: u64, bound: u64, step: u64, forget: u64, start: i64) -> Op
 }
 
 /// The clocks by such a rule, where a record waits that is further ahead of the watermark than the query's SKEW, and so many
-/// may wait at most. There are none either where more than [`MOST_HELD`] may, or where SKEW is less than the bound and a step,
+/// may wait at most. Lines name as many clocks as `named` says; where it says nothing the clock of a record is its key. There are
+/// none either where more than [`MOST_HELD`] may wait or [`MOST_CLOCKS`] be named, or where SKEW is less than the bound and a step,
 /// less 1: a record that waited could then be refused for having waited.
 pub fn clocks_of(
     agree: u64,
@@ -51,12 +54,14 @@ pub fn clocks_of(
     step: u64,
     forget: u64,
     room: u64,
+    named: Option<u64>,
     start: i64,
     skew: i64,
 ) -> Option<Clocks>
     ensures clocks { IfSome result IsClocks }
     ensures start { IfSome result (λ c. c.rule.start ≡ unsigned_abs start) }
     ensures ahead { IfSome result (λ c. pos c.ahead ≡ skew) }
+    ensures named { IfSome result (λ c. c.named ≡ named) }
     ensures in_time { IfSome result (λ c. c.rule.bound + c.rule.step ≤ c.ahead + 1) }
 {
     let rule = rule_of(agree, bound, step, forget, start)?;
@@ -68,7 +73,43 @@ pub fn clocks_of(
         rule,
         ahead: skew.unsigned_abs(),
         room: room as usize,
+        named: most_named(named)?,
     })
+}
+
+// How many clocks may be named, where that is said and aren't too many.
+fn most_named(named: Option<u64>) -> Option<Option<usize>>
+    ensures same { IfSome result (λ most. most ≡ named) }
+    ensures few { IfSome result (λ most. IfSome most (λ n. n ≤ MOST_CLOCKS)) }
+{
+    match named {
+        None => Some(None),
+        Some(most) if most <= MOST_CLOCKS as u64 => Some(Some(most as usize)),
+        Some(_) => None,
+    }
+}
+
+/// How many clocks lines may name, where they name them.
+pub fn named_in(clocks: Option<Clocks>) -> Option<usize>
+    ensures { result ≡ named_in clocks }
+{
+    match clocks {
+        Some(clocks) => clocks.named,
+        None => None,
+    }
+}
+
+/// How many clocks there may be, with so many keys.
+pub fn count_in(clocks: Option<Clocks>, keys: usize) -> usize
+    requires clocks { AreClocks clocks }
+    requires keys { keys ≤ MAX_NAMES }
+    ensures count { result ≡ count_in clocks keys }
+    ensures few { result ≤ MOST_CLOCKS }
+{
+    match named_in(clocks) {
+        Some(most) => most,
+        None => keys,
+    }
 }
 
 /// What an event says of time: a record of a declared key whose values fit and whose time is one, on the clock of its key.

@@ -17,8 +17,7 @@ use crate::line_event::LineEvent;
 use crate::taker::Taker;
 use std::alloc::{AllocError, Global};
 use wsm_record::Event;
-use wsm_record::limits::MAX_NAMES;
-use wsm_watermarks::{Held, Stamp, Timed, Watermarks};
+use wsm_watermarks::{Held, MOST_CLOCKS, Stamp, Timed, Watermarks};
 
 /// The clocks of a log, and the records that wait for them.
 #[derive(Drop)]
@@ -43,7 +42,7 @@ impl Waiting {
     // So many clocks, before the first stamp.
     fn open(alloc: Global, clocks: Clocks, count: usize) -> Result<Waiting, AllocError>
         requires clocks { IsClocks clocks }
-        requires count { count ≤ MAX_NAMES }
+        requires count { count ≤ MOST_CLOCKS }
         ensures { IfOk result (λ w. Hears clocks count w [] clocks.rule.start []) }
     {
         Ok(Waiting {
@@ -123,7 +122,7 @@ impl Waiting {
     }
 }
 
-/// The clocks, if there are any, before the first stamp. There are so many keys.
+/// The clocks, if there are any, before the first stamp. There are so many.
 ///
 /// # Errors
 ///
@@ -134,7 +133,7 @@ pub fn open_clocks(
     count: usize,
 ) -> Result<Option<Waiting>, AllocError>
     requires clocks { AreClocks clocks }
-    requires count { count ≤ MAX_NAMES }
+    requires count { count ≤ MOST_CLOCKS }
     ensures { IfOk result (λ w. Hear clocks count w [] (start_of clocks) []) }
 {
     match clocks {

@@ -16,7 +16,7 @@ returns-in_err-write-clause-ends_early g c =
     rw (e.1, e.2) (λ known s clocks p read old all stands.
     let mid = g.D.Device.taken c.args.out.now in
     let new = g.D.Device.taken c.write.new.out in
-    let turns = turns_text (query_of p) clocks (read_by s (query_of p) read) in
+    let turns = turns_text (query_of p) clocks (read_by s clocks (query_of p) read) in
     let whole = last_text s clocks p read c.end.new.self c.in_ok-end.end (c.in_ok-end.ensures s clocks p (reverse read) stands.fits) in
     inr (record { all = all; part = subst (TakesPart old new) whole (TakesPart-last old mid new turns c.end.new.self.told.lines.items stands.text c.in_err-write.ensures.part) }))
 
@@ -28,7 +28,7 @@ returns-in_err-flush-clause-ends_early g c =
     let new = g.D.Device.taken c.write.new.out in
     let flushed = g.D.Device.taken c.flush.new.self in
     let last = c.end.new.self.told.lines.items in
-    let turns = turns_text (query_of p) clocks (read_by s (query_of p) read) in
+    let turns = turns_text (query_of p) clocks (read_by s clocks (query_of p) read) in
     let whole = last_text s clocks p read c.end.new.self c.in_ok-end.end (c.in_ok-end.ensures s clocks p (reverse read) stands.fits) in
     let written = Keeps-Appends old new flushed (turns ++ last) (Appends-join old mid new turns last stands.text c.in_ok-write.ensures.all) c.in_err-flush.ensures.kept in
     inr (record { all = all; part = subst (TakesPart old flushed) whole (TakesPart-all old flushed (turns ++ last) written) }))
@@ -39,7 +39,7 @@ returns-clause-completes g c = λ known s clocks p read old all stands.
     let new = g.D.Device.taken c.write.new.out in
     let flushed = g.D.Device.taken c.flush.new.self in
     let last = c.end.new.self.told.lines.items in
-    let turns = turns_text (query_of p) clocks (read_by s (query_of p) read) in
+    let turns = turns_text (query_of p) clocks (read_by s clocks (query_of p) read) in
     let ends = c.in_ok-end.ensures s clocks p (reverse read) stands.fits in
     let written = Keeps-Appends old new flushed (turns ++ last) (Appends-join old mid new turns last stands.text c.in_ok-write.ensures.all) c.in_ok-flush.ensures.kept in
     record { all = all; text = subst (Appends old flushed) (last_text s clocks p read c.end.new.self c.in_ok-end.end ends) written; numbers = ends.numbers }

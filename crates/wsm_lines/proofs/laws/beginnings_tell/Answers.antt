@@ -1,4 +1,4 @@
-use Rattle.wsm_lines.proofs.KeptLemmas.{identifier_of-all-kept, said_of-all-kept, said_of-kept}
+use Rattle.wsm_lines.proofs.KeptLemmas.{clock_of-all-kept, identifier_of-all-kept, said_of-all-kept, said_of-kept}
 use Rattle.wsm_lines.proofs.laws.beginnings_tell.Goals as goal
 
 pub returns-clause-all : goal.returns-clause-all
@@ -9,3 +9,6 @@ returns-clause-line c = said_of-kept
 
 pub returns-clause-identifiers : goal.returns-clause-identifiers
 returns-clause-identifiers c = identifier_of-all-kept
+
+pub returns-clause-clocks : goal.returns-clause-clocks
+returns-clause-clocks c = clock_of-all-kept

@@ -1,6 +1,8 @@
-use Rattle.std.proofs.Common.{◌≡◌, ◌∙◌, ℕ, [], length, refl, ap, subst}
+use Rattle.std.proofs.Common.{◌≡◌, ◌∙◌, ℕ, [], Option, length, refl, ap, subst}
 use Rattle.wsm_record.specs.Schema.{Declared}
 use Rattle.wsm_program.specs.Program.{Program}
+use Rattle.wsm_turns.specs.Clocks.{count_in}
+use Rattle.wsm_turns.specs.Named.{Knows}
 use Rattle.wsm_turns.specs.Turns.{start_of}
 use Rattle.wsm_turns.specs.Waits.{Hear}
 use Rattle.wsm_intake.proofs.intake.Intake.open.Goals as goal
@@ -9,14 +11,17 @@ pub returns : goal.returns
 returns c =
     let count : c.key_count.result ≡ length c.args.verified.header.schema.keys =
     c.key_count.ensures.count ∙ ap (λ (d : Declared). length d.keys) (c.schema.ensures ∙ ap (λ (p : Program). p.header.schema) c.in_ok-told.ensures.program) in
+    let all : c.count_in-count.result ≡ count_in c.args.clocks (length c.args.verified.header.schema.keys) = c.count_in-count.ensures.count ∙ ap (count_in c.args.clocks) count in
     record {
       holds = record {
         told = record { program = c.in_ok-told.ensures.program; fits = c.in_ok-told.ensures.fits };
-        waiting = subst (λ (n : ℕ). Hear c.args.clocks n c.in_ok-waiting.waiting [] (start_of c.args.clocks) []) count c.in_ok-waiting.ensures;
+        waiting = subst (λ (n : ℕ). Hear c.args.clocks n c.in_ok-waiting.waiting [] (start_of c.args.clocks) []) all c.in_ok-waiting.ensures;
         remembers = c.identifiers_of-identifiers.ensures c.args.clocks _;
       };
       reader = record { source = c.new.ensures.source; heading = c.new.ensures.heading };
+      names = subst (λ (n : Option ℕ). Knows n c.in_ok-names.names []) c.named_in.ensures c.in_ok-names.ensures;
       taken = refl;
       faults = refl;
       doubles = refl;
+      silent = refl;
     }

@@ -1,57 +1,42 @@
-use Rattle.std.proofs.Common.{◌∙◌, ℕ, Bool, not, List, [], Option, length, refl, sym, ap, subst, append-nil}
+use Rattle.std.proofs.Common.{◌≡◌, ◌∙◌, ◌<◌, ◌+◌, ℕ, List, Option, Some, length, sym, ap, subst}
 use Rattle.std.proofs.lemmas.Result.{on_ok_weaker}
-use Rattle.std.specs.Prelude.{if◌then◌else◌}
-use Rattle.wsm_record.specs.Event.{Event}
-use Rattle.wsm_turns.specs.Turns.{fed_with, stamped, watermark}
-use Rattle.wsm_turns.specs.Waits.{Takes}
-use Rattle.wsm_turns.specs.Known.{Passes}
-use Rattle.wsm_turns.proofs.Remembering.{mark_rises}
-use Rattle.wsm_intake.specs.Tells.{Took}
+use Rattle.std.specs.Prelude.{IfSome}
+use Rattle.wsm_admission.specs.Admission.{counter}
+use Rattle.wsm_lines.specs.Reader.{clock_read}
+use Rattle.wsm_turns.specs.declared.voice.Voice.{Voice}
+use Rattle.wsm_turns.specs.Clocks.{count_in, named_in}
+use Rattle.wsm_turns.specs.Heard.{left_by, silent_in}
+use Rattle.wsm_turns.specs.Named.{Knows}
+use Rattle.wsm_turns.specs.Turns.{turn_by}
+use Rattle.wsm_turns.specs.Voices.{stamp_by, voiced}
+use Rattle.wsm_intake.specs.declared.intake.Intake.{Intake}
 use Rattle.wsm_intake.specs.Turns.{Goes, setting_by, spoken_read}
-use Rattle.wsm_intake.proofs.Counts.{no_more, one_more_fault}
+use Rattle.wsm_intake.proofs.Counts.{some_more}
 use Rattle.wsm_intake.proofs.intake.Intake.serve_stamped.Goals as goal
 
--- a double is left out
-pub returns-then-not-is_new : goal.returns-then-not-is_new
-returns-then-not-is_new c = λ clocks p k holds few clock.
-    let old = c.args.self.now in
-    let w = setting_by clocks p in
-    let x = spoken_read old.reader in
-    let passes : Passes w (watermark w k.fed) c.passes.new.identifiers x.identifier c.args.stamp.time k.memory c.in_ok-is_new.is_new =
-    subst (λ (i : Option (List ℕ)). Passes w (watermark w k.fed) c.passes.new.identifiers i c.args.stamp.time k.memory c.in_ok-is_new.is_new) c.identifier.ensures (c.in_ok-is_new.ensures clocks p k holds.told holds.remembers) in
-    subst (λ (b : Bool). Goes clocks p old (record old { identifiers = c.passes.new.identifiers; doubles = c.saturating_add-self.result }) k (if b then record { goes = []; kept = k } else stamped w k old.taken c.args.stamp x) (if b then 1 else 0)) (sym (passes.answer ∙ ap not c.if-not-is_new.true)) (record {
-      holds = record {
-        told = record { program = holds.told.program; fits = holds.told.fits };
-        waiting = holds.waiting;
-        remembers = passes.double c.if-not-is_new.true;
-      };
-      text = sym (append-nil old.told.lines.items);
-      doubles = λ n h. c.saturating_add-self.ensures ∙ one_more_fault old.doubles n h;
-      others = refl;
-    })
-
 pub returns : goal.returns
-returns c = λ clocks p k holds few clock.
+returns c = λ clocks p k names holds knows few clock.
     let old = c.args.self.now in
+    let r = old.reader in
     let w = setting_by clocks p in
-    let x = spoken_read old.reader in
-    let keys = length p.header.schema.keys in
-    let mark = watermark w k.fed in
-    let passes : Passes w mark c.passes.new.identifiers x.identifier c.args.stamp.time k.memory c.in_ok-is_new.is_new =
-    subst (λ (i : Option (List ℕ)). Passes w mark c.passes.new.identifiers i c.args.stamp.time k.memory c.in_ok-is_new.is_new) c.identifier.ensures (c.in_ok-is_new.ensures clocks p k holds.told holds.remembers) in
-    let Went = Took old.told c.take_record.new.taker in
-    on_ok_weaker c.take_record.result (λ taken.
-    let takes = subst (λ (e : Event). Takes clocks keys k c.take_record.new.waiting Went c.args.stamp old.taken e) c.event.ensures taken in
-    let tells = takes.took p k.fed holds.told in
-    let turn = stamped w k old.taken c.args.stamp x in
-    let none = passes.answer ∙ ap not c.if-not-is_new.false in
-    subst (λ (b : Bool). Goes clocks p old (record old { told = c.take_record.new.taker; waiting = c.take_record.new.waiting; identifiers = c.passes.new.identifiers }) k (if b then record { goes = []; kept = k } else turn) (if b then 1 else 0)) (sym none) (record {
-      holds = record {
-        told = record { program = tells.serves.program; fits = tells.serves.fits };
-        waiting = takes.hears;
-        remembers = passes.noted c.if-not-is_new.false (watermark w (fed_with k.fed turn.goes)) (mark_rises w k.fed turn.goes);
-      };
-      text = tells.text;
-      doubles = no_more old.doubles;
-      others = refl;
-    })) (c.take_record.ensures clocks keys k holds.waiting clock few)
+    let named = named_in clocks in
+    let stamp = c.args.stamp in
+    let voice = c.in_ok-voice.voice in
+    let v = voiced named names (clock_read r) in
+    let name = c.clock.ensures in
+    let is : voice ≡ v.voice = c.in_ok-voice.ensures.voice named names knows ∙ ap (λ (n : Option (List ℕ)). (voiced named names n).voice) name in
+    let known : Knows named c.voice_of.new.names v.names =
+    subst (λ (n : Option (List ℕ)). Knows named c.voice_of.new.names (voiced named names n).names) name (c.in_ok-voice.ensures.names named names knows) in
+    let new = c.serve_voiced.new.self in
+    on_ok_weaker c.serve_voiced.result (λ goes.
+    let at : Goes clocks p (record old { names = new.names; silent = new.silent }) new k (turn_by w k old.taken (Some stamp) (spoken_read r voice)) (left_by (Some stamp) (spoken_read r voice).identifier k.memory) =
+    subst (λ (t : Intake). Goes clocks p (record old { names = t.names; silent = t.silent }) new k (turn_by w k old.taken (Some stamp) (spoken_read r voice)) (left_by (Some stamp) (spoken_read r voice).identifier k.memory)) (sym goes.others) goes in
+    record {
+      goes = subst (λ (u : Voice). Goes clocks p (record old { names = new.names; silent = new.silent }) new k (turn_by w k old.taken (Some stamp) (spoken_read r u)) (left_by (Some stamp) (spoken_read r u).identifier k.memory)) is at;
+      names = subst (λ (t : Intake). Knows named t.names v.names) (sym goes.others) known;
+      silent = λ n h.
+          ap (λ (t : Intake). t.silent) goes.others ∙ c.saturating_add-self.ensures
+          ∙ ap (λ (m : ℕ). counter (old.silent + m)) (c.silent_in.ensures ∙ ap silent_in is) ∙ some_more old.silent n (silent_in v.voice) h;
+    })
+    (c.serve_voiced.ensures clocks p k (record { told = holds.told; waiting = holds.waiting; remembers = holds.remembers }) few
+    (c.in_ok-voice.ensures.within named names (length p.header.schema.keys) stamp knows clock))

@@ -1,6 +1,6 @@
 use Rattle.wsm_lines.specs.Seen.{heading_seen}
 use Rattle.wsm_lines.proofs.FaultLemmas.{events_as, faults_as, found_as}
-use Rattle.wsm_lines.proofs.FirstLemmas.{identifier_of-under, said_of-under}
+use Rattle.wsm_lines.proofs.FirstLemmas.{clock_of-under, identifier_of-under, said_of-under}
 use Rattle.wsm_lines.proofs.reader.LineReader.read.Goals as goal
 
 pub returns-clause-event : goal.returns-clause-event
@@ -12,6 +12,11 @@ pub returns-clause-identifier : goal.returns-clause-identifier
 returns-clause-identifier c s before follows =
     let r = c.args.self.now in
     found_as c.read_line.result _ _ _ (identifier_of-under s r.source before c.args.line.now c.bare.result.now (heading_seen r.heading) follows.source follows.heading c.bare.ensures) c.read_line.ensures.identifier
+
+pub returns-clause-clock : goal.returns-clause-clock
+returns-clause-clock c s before follows =
+    let r = c.args.self.now in
+    found_as c.read_line.result _ _ _ (clock_of-under s r.source before c.args.line.now c.bare.result.now (heading_seen r.heading) follows.source follows.heading c.bare.ensures) c.read_line.ensures.clock
 
 pub returns-clause-fault : goal.returns-clause-fault
 returns-clause-fault c s before follows =

@@ -21,7 +21,7 @@ returns-then-not-is_new c = λ w s line is begins.
     let passes : Passes w mark c.passes.new.identifiers x.identifier c.args.stamp.time s.kept.memory c.in_ok-is_new.is_new =
     subst (λ (i : Option (List ℕ)). Passes w mark c.passes.new.identifiers i c.args.stamp.time s.kept.memory c.in_ok-is_new.is_new) c.identifier.ensures (c.in_ok-is_new.ensures w s.kept.fed s.kept.memory begins.holds.told begins.holds.remembers) in
     let sum : c.saturating_add-self.result ≡ counter (old.counts.doubles + 1) = search rules in
-    record_left w s line old begins c.passes.new.identifiers (record old.counts { doubles = c.saturating_add-self.result }) c.args.stamp x is
+    record_left w s line old begins c.passes.new.identifiers (record old.counts { doubles = c.saturating_add-self.result }) c.args.stamp x.event x.identifier is
     (subst (λ (b : Bool). Passes w mark c.passes.new.identifiers x.identifier c.args.stamp.time s.kept.memory b) c.if-not-is_new.true passes) refl refl
     (subst (λ (m : ℕ). CountsIf true old.counts.doubles m) (sym sum) (one_more old.counts.doubles))
 
@@ -33,7 +33,7 @@ returns c = λ w s line is begins.
     let passes : Passes w mark c.passes.new.identifiers x.identifier c.args.stamp.time s.kept.memory c.in_ok-is_new.is_new =
     subst (λ (i : Option (List ℕ)). Passes w mark c.passes.new.identifiers i c.args.stamp.time s.kept.memory c.in_ok-is_new.is_new) c.identifier.ensures (c.in_ok-is_new.ensures w s.kept.fed s.kept.memory begins.holds.told begins.holds.remembers) in
     on_ok_weaker c.take_record.result (λ taken.
-    record_passes w s line old begins c.take_record.new.taker c.take_record.new.waiting c.passes.new.identifiers c.args.stamp x is
+    record_passes w s line old begins c.take_record.new.taker c.take_record.new.waiting c.passes.new.identifiers c.args.stamp x.event x.identifier is
     (subst (λ (b : Bool). Passes w mark c.passes.new.identifiers x.identifier c.args.stamp.time s.kept.memory b) c.if-not-is_new.false passes)
     (subst (λ (e : Event). Takes s.clocks (length w.declared.keys) s.kept c.take_record.new.waiting (Took old.handed c.take_record.new.taker) c.args.stamp old.counts.lines e) c.event.ensures taken))
     (c.take_record.ensures s.clocks (length w.declared.keys) s.kept begins.holds.waiting (clock_known w.declared x.event c.args.stamp is) begins.few)
