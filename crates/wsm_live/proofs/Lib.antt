@@ -1,0 +1,5 @@
+pub mod RowLemmas
+pub mod ToldLemmas
+pub mod RunLemmas
+pub mod LiveLemmas
+pub mod ProtocolLemmas
