@@ -1,1 +1,4 @@
 pub mod StandsFor
+pub mod StandsForRows
+pub mod Behind
+pub mod BehindRows

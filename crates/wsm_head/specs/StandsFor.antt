@@ -10,6 +10,7 @@ use Rattle.wsm_semantics.specs.Summaries.{Plan}
 use Rattle.wsm_semantics.specs.ByKey.{with_records}
 use Rattle.wsm_semantics.specs.FromKept.{KeepAlike}
 use Rattle.wsm_semantics.specs.Needed.{needed}
+use Rattle.wsm_program.specs.Program.{Program}
 
 -- how many records of a history were taken
 abbrev pub taken : Query → List Event → ℕ
@@ -30,3 +31,7 @@ pub record Follows {X : Type 0} (plan : Plan X) (q : Query) (records : ℤ) (pas
 -- the RECORDS by which as many are left behind the needed events as behind the history
 abbrev pub records_left : Query → List Event → ℤ
 records_left q past = pos ((unsigned_abs q.clock.records - taken q past) + taken q (needed q past))
+
+-- a program with another RECORDS
+abbrev pub program_with : ℤ → Program → Program
+program_with records p = record p { header = record p.header { clock = record p.header.clock { records = records } } }
