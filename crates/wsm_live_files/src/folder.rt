@@ -76,15 +76,16 @@ impl<'r, R: Files<File = File> + AllocGlobal + Clone + Drop> LiveFolder<'r, R> {
         JournalFiles::new(self.rt, self.path.as_str())
     }
 
-    /// How many bytes its journal has.
+    /// How many bytes its journal has; none where it isn't there.
     ///
     /// # Errors
     ///
-    /// There was no memory, or it isn't there.
+    /// There was no memory, or it couldn't be looked at.
     pub fn journal_size(&self) -> Result<u64, FolderFault> {
         let path = self.path_of("journal")?;
         match fs::metadata(self.rt, path.as_str()) {
             Ok(metadata) => Ok(metadata.len()),
+            Err(error) if error.kind() == ErrorKind::NotFound => Ok(0),
             Err(error) => Err(FolderFault::of(JOURNAL, FileCall::Read, &error)),
         }
     }

@@ -16,9 +16,9 @@ use wsm_journal::{FolderError, JournalFolder};
 const OWNER_ALONE: u32 = 0o600;
 
 // What the journal and the folder are called where a call failed.
-const JOURNAL: &str = "journal";
+const JOURNAL: &str = "DIR/journal";
 
-const FOLDER: &str = "the folder";
+const FOLDER: &str = "DIR";
 
 /// A journal's files in a folder of the file system: `journal`, and `journal.next`, which takes its name.
 #[derive(Drop)]

@@ -20,6 +20,7 @@ fn keeps_a_journal(rt: HostRuntime) -> Result<(), Fail> {
         return Err(Fail::from("not held"));
     };
     assert!(rt; LiveFolder::hold(&rt, "kept").is_err());
+    assert!(rt; folder.journal_size().is_ok_and(|size| size == 0));
     for count in 0..3 {
         let Ok((mut journal, _)) = JournalFile::open(rt.alloc(), folder.journal()?) else {
             return Err(Fail::from("not opened"));
