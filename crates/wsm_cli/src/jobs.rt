@@ -3,6 +3,7 @@
 use crate::deals::deal_or_tell;
 use crate::judging::{explain, verify};
 use crate::keeps::keep;
+use crate::lives::live;
 use crate::logs::write_log_rows;
 use crate::programs::{compile, migrated};
 use crate::runs::run;
@@ -15,7 +16,7 @@ use std::time::Clock;
 use wsm_words::Job;
 
 /// Does the job; somebody may look at standard error meanwhile. It is false where a program was judged and rejected.
-pub fn done<R: Files<File = File> + AllocGlobal + Input + Print + Eprint + Clock>(
+pub fn done<R: Files<File = File> + AllocGlobal + Input + Print + Eprint + Clock + Clone + Drop>(
     rt: &R,
     job: &Job,
     is_looked_at: bool,
@@ -30,5 +31,6 @@ pub fn done<R: Files<File = File> + AllocGlobal + Input + Print + Eprint + Clock
         Job::Rows(job) => write_log_rows(rt, job, is_looked_at),
         Job::Keep(job) => keep(rt, job),
         Job::Watermarks(job) => follow(rt, job),
+        Job::Live(job) => live(rt, job),
     }
 }

@@ -11,6 +11,7 @@ mod files;
 mod jobs;
 mod judging;
 mod keeps;
+mod lives;
 mod logs;
 mod programs;
 mod progress;
@@ -55,7 +56,7 @@ fn unread(error: &io::Error) -> Stop {
 }
 
 // Does what the words ask for. Somebody may look at standard error meanwhile.
-fn act<R: Files<File = File> + AllocGlobal + Input + Print + Eprint + Clock>(
+fn act<R: Files<File = File> + AllocGlobal + Input + Print + Eprint + Clock + Clone + Drop>(
     rt: &R,
     words: &[String],
     is_looked_at: bool,
@@ -76,7 +77,7 @@ fn job_of(alloc: Global, words: &[String]) -> Result<Job, WordsRefusal> {
 }
 
 // Does the job, and gives the status.
-fn status<R: Files<File = File> + AllocGlobal + Input + Print + Eprint + Clock>(
+fn status<R: Files<File = File> + AllocGlobal + Input + Print + Eprint + Clock + Clone + Drop>(
     rt: &R,
     job: &Job,
     is_looked_at: bool,

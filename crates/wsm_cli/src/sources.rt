@@ -44,6 +44,17 @@ pub fn source_for<R: Files + AllocGlobal>(
     bound_by(rt, name, text, &description, verified)
 }
 
+/// The bytes of a source's file, and behind them those of its names' file, where it has one.
+pub fn bytes_of_source<R: Files + AllocGlobal>(rt: &R, name: &String) -> Result<Vec<u8>, Stop> {
+    let mut bytes = read(rt, name)?;
+    let names = match str::from_utf8(&bytes) {
+        Ok(text) => names_of(rt, name, &describe(rt.alloc(), text)?.key.naming)?,
+        Err(_) => return Err(refused(rt, SourceFault::NotToml, "", "")),
+    };
+    bytes.extend_from_slice(&names)?;
+    Ok(bytes)
+}
+
 // What the text of a source comes to, of which it is known what it says.
 fn bound_by<R: Files + AllocGlobal>(
     rt: &R,

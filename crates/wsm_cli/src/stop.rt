@@ -4,6 +4,7 @@ use std::alloc::{AllocError, AllocFailed};
 use std::fmt;
 use wsm::{End, status_of};
 use wsm_kept::KeepEnd;
+use wsm_live_loop::LiveStop;
 use wsm_replace::ReplaceFault;
 use wsm_source::SourceRefusal;
 
@@ -13,10 +14,10 @@ pub const REFUSED_WORDS: u8 = 2;
 // A source was refused, as a query's text may be.
 const REFUSED_SOURCE: u8 = 3;
 
-// Another one holds the file of the rows: again after a pause.
+// Another one holds the file of the rows, or the folder of a live run: again after a pause.
 const HELD_ROWS: u8 = 8;
 
-// The rows aren't those of the query, or are damaged: somebody must look.
+// The rows or the folder aren't those of the query, or are damaged: somebody must look.
 const UNFIT_ROWS: u8 = 9;
 
 /// How a job ended early. Its text is what the program prints behind its name.
@@ -28,6 +29,8 @@ pub enum Stop {
     Words(WordsFault),
     /// Its rows aren't cut.
     Rows(RowsFault),
+    /// Its live run ends.
+    Live(LiveStop),
     /// As a job without a source ends.
     End(End),
 }
@@ -41,6 +44,7 @@ impl Stop {
             Stop::Words(_) => REFUSED_WORDS,
             Stop::Rows(RowsFault::Held) => HELD_ROWS,
             Stop::Rows(_) => UNFIT_ROWS,
+            Stop::Live(stop) => status_of_live(stop),
             Stop::End(end) => status_of(*end),
         }
     }
@@ -52,8 +56,22 @@ impl fmt::Display for Stop {
             Stop::Source(refusal) => write!(f, "{refusal}"),
             Stop::Words(fault) => write!(f, "{fault}"),
             Stop::Rows(fault) => write!(f, "{fault}"),
+            Stop::Live(stop) => write!(f, "{stop}"),
             Stop::End(end) => write!(f, "{end}"),
         }
+    }
+}
+
+// The exit status of a live run that ends so.
+fn status_of_live(stop: &LiveStop) -> u8 {
+    match stop {
+        LiveStop::Memory => status_of(End::Memory),
+        LiveStop::NoLog => REFUSED_WORDS,
+        LiveStop::Held => HELD_ROWS,
+        LiveStop::Log => status_of(End::ReadFailed),
+        LiveStop::File(fault) if fault.call.is_reading() => status_of(End::ReadFailed),
+        LiveStop::File(_) | LiveStop::Out => status_of(End::WriteFailed),
+        _ => UNFIT_ROWS,
     }
 }
 
@@ -76,6 +94,8 @@ pub enum WordsFault {
     NoClocks,
     /// The query has sources and none of them is named, or one is named that it hasn't.
     NoSource,
+    /// It goes on nowhere but at the beginning where lines are gone.
+    NoPlace,
 }
 
 impl fmt::Display for WordsFault {
@@ -93,6 +113,7 @@ impl fmt::Display for WordsFault {
             WordsFault::NoSource => f.write_str(
                 "--source names one of the query's SOURCES, and is left out where it has none",
             ),
+            WordsFault::NoPlace => f.write_str("--lost takes `begin`"),
         }
     }
 }
@@ -144,6 +165,12 @@ impl From<End> for Stop {
 impl From<SourceRefusal> for Stop {
     fn from(refusal: SourceRefusal) -> Stop {
         Stop::Source(refusal)
+    }
+}
+
+impl From<LiveStop> for Stop {
+    fn from(stop: LiveStop) -> Stop {
+        Stop::Live(stop)
     }
 }
 

@@ -2,7 +2,7 @@
 
 use itoa::Buffer;
 use std::alloc::Global;
-use wsm::{End, migrate};
+use wsm::{End, compile_text, migrate};
 use wsm_sums::Crc32;
 use wsm_tokens::{Reader, Token};
 
@@ -12,6 +12,20 @@ pub fn sum_of_program(alloc: Global, bytes: &[u8]) -> Result<u64, End> {
     let mut sum = Crc32::new();
     sum.add(&newest);
     Ok(u64::from(sum.sum()))
+}
+
+/// The sum of all that says what is written for the lines of a log: the bytes of the program, in the version that is written,
+/// and those of its source behind them.
+pub fn sum_of_live(alloc: Global, program: bool, query: &[u8], source: &[u8]) -> Result<u32, End> {
+    let newest = if program {
+        migrate(alloc, query)?
+    } else {
+        compile_text(alloc, query)?
+    };
+    let mut sum = Crc32::new();
+    sum.add(&newest);
+    sum.add(source);
+    Ok(sum.sum())
 }
 
 /// The sum of a query's tokens with a blank between two, whatever its RECORDS are.

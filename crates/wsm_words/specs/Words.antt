@@ -6,7 +6,7 @@ use Rattle.clap.specs.declared.error.Error.{Error}
 use Rattle.clap.specs.declared.error.kind.ErrorKind.TheVariants.{OutOfMemory}
 use Rattle.wsm_words.specs.declared.job.Agreement.{Agreement}
 use Rattle.wsm_words.specs.declared.job.Job.{Job}
-use Rattle.wsm_words.specs.declared.job.Job.TheVariants.{Run, Compile, Migrate, Verify, Explain, Deal, Rows, Keep, Watermarks}
+use Rattle.wsm_words.specs.declared.job.Job.TheVariants.{Run, Compile, Migrate, Verify, Explain, Deal, Rows, Keep, Watermarks, Live}
 use Rattle.wsm_words.specs.declared.words.WordsRefusal.{WordsRefusal}
 use Rattle.wsm_words.specs.declared.words.WordsRefusal.TheVariants.{Words, Memory}
 
@@ -86,6 +86,16 @@ waiting_app =
 abbrev pub watermarks_app : App
 watermarks_app = with_rule (with_rule (with_rule waiting_app (flag_rule (codes "last"))) (file_rule (codes "query"))) rows_rule
 
+-- live [--program] --from SOURCE [--lost WHERE] [--health FILE] [--patience SECONDS]
+abbrev pub following_app : App
+following_app =
+    with_rule (with_rule (with_rule (with_rule (with_rule (new_app (codes "live")) (flag_rule (codes "program"))) (needed_rule (codes "from"))) (option_rule (codes "lost")))
+    (option_rule (codes "health"))) (option_rule (codes "patience"))
+
+-- and with DIR QUERY LOG
+abbrev pub live_app : App
+live_app = with_rule (with_rule (with_rule following_app (file_rule (codes "dir"))) (file_rule (codes "query"))) (file_rule (codes "log"))
+
 -- the program's command, which wants a subcommand and tells its version
 abbrev pub required_app : App
 required_app = let a = new_app (codes "wsm") in record a { top = record a.top { has_version = true; subcommand_required = true } }
@@ -110,9 +120,13 @@ row_apps = with_subcommand (with_subcommand judging_apps deal_app.top) rows_app.
 abbrev pub cutting_apps : App
 cutting_apps = with_subcommand row_apps keep_app.top
 
--- and with the one that writes watermarks: all of them
+-- and with the one that writes watermarks
+abbrev pub marking_apps : App
+marking_apps = with_subcommand cutting_apps watermarks_app.top
+
+-- and with the one that follows a log: all of them
 abbrev pub the_app : App
-the_app = with_subcommand cutting_apps watermarks_app.top
+the_app = with_subcommand marking_apps live_app.top
 
 -- what a flag's text says: one of these, or there is none
 abbrev pub SaysFlag : Option Text → Bool → Type 0
@@ -168,6 +182,10 @@ IsJob name entries (Watermarks job) =
     (name ≡ codes "watermarks") × SaysFlag (one_of (codes "program") entries) job.program × IsAgreement entries job.agreement
     × HasOption entries (codes "source") job.source × HasOption entries (codes "once") job.once × SaysFlag (one_of (codes "last") entries) job.last
     × Names entries (codes "query") job.query × NamesRows entries job.rows
+IsJob name entries (Live job) =
+    (name ≡ codes "live") × SaysFlag (one_of (codes "program") entries) job.program × Names entries (codes "from") job.from
+    × HasOption entries (codes "lost") job.lost × HasOption entries (codes "health") job.health × HasOption entries (codes "patience") job.patience
+    × Names entries (codes "dir") job.dir × Names entries (codes "query") job.query × Names entries (codes "log") job.log
 
 -- a job is that of the subcommand and its entries
 abbrev pub IsJobOf : Option (Text × List Row) → Job → Type 0

@@ -35,8 +35,8 @@ Statuses:
   5  memory was refused
   6  a file couldn't be opened or read
   7  the output failed
-  8  another one holds the file of the rows: again after a pause
-  9  the rows aren't those of the query, or are damaged: somebody must look";
+  8  another one holds the file of the rows, or the folder of a live run: again after a pause
+  9  the rows or the folder aren't those of the query, or are damaged: somebody must look";
 
 /// What the command `run` does.
 pub const RUN: &str =
@@ -369,3 +369,51 @@ writes
 An identifier is kept until a record of its time would be late by QUERY. A line that is no row goes on
 without its cell too. At the end it tells on standard error how many lines were no rows, how many
 records were late by QUERY, were left out, and waited until then, and where fewer than K keys speak.";
+
+/// What the command `live` does.
+pub const LIVE: &str =
+    "Follows a log as it grows and is rotated, and hands out what a run over it writes, each line once by its number.";
+
+/// What the folder of a live run is.
+pub const DIR: &str = "The folder of the run, which is made where it isn't there";
+
+/// What the log's file is.
+pub const GROWING_LOG: &str =
+    "The file of the log, which may be renamed, or copied and cut, as it grows";
+
+/// What the option for lost lines says.
+pub const LOST: &str =
+    "Where lines that were read are gone: `begin` goes on at the beginning of the log that is there";
+
+/// What the option for the file of health says.
+pub const HEALTH: &str =
+    "The file of what the run has come to, for Prometheus; DIR/health where it is left out";
+
+/// What the option for patience says.
+pub const PATIENCE: &str =
+    "A log that was renamed has ended once nothing came for so many seconds; 3 where it is left out";
+
+/// An example of the command `live`.
+pub const LIVE_EXAMPLE: &str =
+    "With the query of `wsm --help`, the source and the log of `wsm run --help`,
+
+  wsm live state --from log.toml sums.wsm log.json
+
+writes
+
+  live,3f6d0c1be2a94758,2034859011,0
+  1,2178106104,pane,on_time,a,0,60,2,10
+
+and goes on, until it is killed. The first line has the name that was drawn for DIR, the sum of the query
+and the source, and the number of the line in front of the next one. A line is NUMBER,SUM,LINE: NUMBER
+counts from 1 on, and SUM is the CRC-32 of all lines up to this one. They are the lines of
+`wsm run --from` over all of the log, but for its end row.
+
+A line of the log is on the disk in DIR before anything is written for it. Killed at any moment, also by
+a power cut, and begun anew, it writes the lines with their numbers again, so who takes them passes over
+those that he has. He may tell in DIR/taken what he has surely on his disk, as NAME,NUMBER,SUM of the
+last line: he writes it beside, as DIR/taken.next, and renames it.
+
+It ends by itself with status 5, 6, 7 or 8, behind which it may be begun anew, or with 2, 3, 4 or 9,
+where somebody must look: DIR is of another query or source, or is damaged, or lines that were read
+are gone from the log, or are in a file that is packed.";

@@ -21,6 +21,8 @@ pub enum Job {
     Keep(KeepJob),
     /// To write rows with watermarks among them.
     Watermarks(WatermarksJob),
+    /// To follow a log, and hand out lines with their numbers.
+    Live(LiveJob),
 }
 
 // A job is let go in one call, however many parts it has.
@@ -36,6 +38,7 @@ impl Drop for Job {
             Job::Rows(_job) => {}
             Job::Keep(_job) => {}
             Job::Watermarks(_job) => {}
+            Job::Live(_job) => {}
         }
     }
 }
@@ -168,4 +171,25 @@ pub struct Agreement {
     pub forget: Option<String>,
     /// How many records may wait.
     pub room: Option<String>,
+}
+
+/// To follow a log as it grows, and hand out lines with their numbers.
+#[derive(Debug, Drop)]
+pub struct LiveJob {
+    /// Whether the file has the bytes of a program, and not the text of a query.
+    pub program: bool,
+    /// The file of the source by which the lines are read.
+    pub from: String,
+    /// Where to go on where lines that were read are gone; nowhere where it isn't said.
+    pub lost: Option<String>,
+    /// The file of what the run has come to; one in the folder where it isn't said.
+    pub health: Option<String>,
+    /// For how many seconds nothing comes to a log that has ended; some where it isn't said.
+    pub patience: Option<String>,
+    /// The folder of the run.
+    pub dir: String,
+    /// The file of the query or the program.
+    pub query: String,
+    /// The file of the log.
+    pub log: String,
 }

@@ -16,7 +16,7 @@
 #![tactic(auto)]
 
 pub use job::{
-    Agreement, CompileJob, DealJob, ExplainJob, Job, KeepJob, MigrateJob, RowsJob, RunJob,
+    Agreement, CompileJob, DealJob, ExplainJob, Job, KeepJob, LiveJob, MigrateJob, RowsJob, RunJob,
     VerifyJob, WatermarksJob,
 };
 pub use words::{WordsRefusal, command_of};

@@ -2,11 +2,11 @@
 
 ghost use Rattle.std.specs.Prelude.{◌≡◌, true, false, IfOk, IfErr, codes, map, option_map, string_bytes};
 ghost use Rattle.clap.specs.Words.{app_of, first_of, one_of, new_app, fault_of, found_of, rows_of as entries_of, rule_of, subcommand_of, subcommand_rows_of, takes};
-ghost use Rattle.wsm_words.specs.Words.{the_app, query_app, required_app, run_app, compile_app, judging_apps, verify_app, explain_app, migrate_app, writing_app, dealing_app, deal_app, rows_app, row_apps, keeping_app, keep_app, cutting_apps, agreeing_app, waiting_app, watermarks_app, file_rule, flag_rule, needed_rule, option_rule, rows_rule, AnswersFaults, HasOption, IsAgreement, IsJob, IsJobOf, IsMemory, Names, NamesRows, SaysFlag, rows_named};
+ghost use Rattle.wsm_words.specs.Words.{the_app, query_app, required_app, run_app, compile_app, judging_apps, verify_app, explain_app, migrate_app, writing_app, dealing_app, deal_app, rows_app, row_apps, keeping_app, keep_app, cutting_apps, agreeing_app, waiting_app, watermarks_app, marking_apps, following_app, live_app, file_rule, flag_rule, needed_rule, option_rule, rows_rule, AnswersFaults, HasOption, IsAgreement, IsJob, IsJobOf, IsMemory, Names, NamesRows, SaysFlag, rows_named};
 
 use crate::help;
 use crate::job::{
-    Agreement, CompileJob, DealJob, ExplainJob, Job, KeepJob, MigrateJob, RowsJob, RunJob,
+    Agreement, CompileJob, DealJob, ExplainJob, Job, KeepJob, LiveJob, MigrateJob, RowsJob, RunJob,
     VerifyJob, WatermarksJob,
 };
 use crate::version::version_text;
@@ -50,9 +50,10 @@ impl From<clap::Error> for WordsRefusal {
 /// required: `run [--program] [--from SOURCE] QUERY [ROWS]`, `compile QUERY OUT`, `migrate PROGRAM OUT`,
 /// `verify [--query] [--from SOURCE] PROGRAM`, `explain [--json] [--query] PROGRAM`,
 /// `deal [--keys-of] KEYS PARTS OUT [ROWS]`, `rows [--program] SOURCE QUERY [LOG]`,
-/// `keep [--program] [--taken LINES] [--most BYTES] QUERY [ROWS]` or `watermarks [--program] [--agree K] --bound BOUND
-/// [--step STEP] [--forget N] [--room N] [--source NAME] [--once CELL] [--last] QUERY [ROWS]`. Words that `clap` takes are refused for
-/// want of memory alone. Others are refused by a fault that `clap` finds in them, or for want of memory.
+/// `keep [--program] [--taken LINES] [--most BYTES] QUERY [ROWS]`, `watermarks [--program] [--agree K] --bound BOUND
+/// [--step STEP] [--forget N] [--room N] [--source NAME] [--once CELL] [--last] QUERY [ROWS]` or
+/// `live [--program] --from SOURCE [--lost WHERE] [--health FILE] [--patience SECONDS] DIR QUERY LOG`. Words that `clap` takes are
+/// refused for want of memory alone. Others are refused by a fault that `clap` finds in them, or for want of memory.
 pub fn command_of(alloc: Global, words: &[&str]) -> Result<Job, WordsRefusal>
     ensures job { IfOk result (IsJobOf (subcommand_of the_app (map (λ s. s.now) words.now))) }
     ensures refused { IfErr result (λ e. takes the_app (map (λ s. s.now) words.now) ≡ true → IsMemory e) }
@@ -67,11 +68,19 @@ pub fn command_of(alloc: Global, words: &[&str]) -> Result<Job, WordsRefusal>
 fn wsm_command<'a>(alloc: Global, version: &'a str) -> Result<Command<'a>, AllocError>
     ensures { IfOk result (λ c. app_of c ≡ the_app) }
 {
+    let wsm = marking_commands(alloc, version)?.subcommand(live_command(alloc)?)?;
+    Ok(wsm)
+}
+
+// The program's command, with all its subcommands but the one that follows a log.
+fn marking_commands<'a>(alloc: Global, version: &'a str) -> Result<Command<'a>, AllocError>
+    ensures { IfOk result (λ c. app_of c ≡ marking_apps) }
+{
     let wsm = cutting_commands(alloc, version)?.subcommand(watermarks_command(alloc)?)?;
     Ok(wsm)
 }
 
-// The program's command, with all its subcommands but the one that writes watermarks.
+// The program's command, with the subcommands that take a query, write a program, judge one, or deal, write or cut rows.
 fn cutting_commands<'a>(alloc: Global, version: &'a str) -> Result<Command<'a>, AllocError>
     ensures { IfOk result (λ c. app_of c ≡ cutting_apps) }
 {
@@ -275,6 +284,30 @@ fn agreeing_command<'a>(alloc: Global) -> Result<Command<'a>, AllocError>
     Ok(watermarks)
 }
 
+// `live [--program] --from SOURCE [--lost WHERE] [--health FILE] [--patience SECONDS] DIR QUERY LOG`
+fn live_command<'a>(alloc: Global) -> Result<Command<'a>, AllocError>
+    ensures { IfOk result (λ c. app_of c ≡ live_app) }
+{
+    let live = following_command(alloc)?
+        .arg(file(alloc, "dir", "DIR", help::DIR))?
+        .arg(file(alloc, "query", "QUERY", help::QUERY_OR_PROGRAM))?
+        .arg(file(alloc, "log", "LOG", help::GROWING_LOG))?;
+    Ok(live)
+}
+
+// `live [--program] --from SOURCE [--lost WHERE] [--health FILE] [--patience SECONDS]`
+fn following_command<'a>(alloc: Global) -> Result<Command<'a>, AllocError>
+    ensures { IfOk result (λ c. app_of c ≡ following_app) }
+{
+    let live = command(alloc, "live", help::LIVE, help::LIVE_EXAMPLE)
+        .arg(flag(alloc, "program", help::IS_PROGRAM))?
+        .arg(needed(alloc, "from", "SOURCE", help::SOURCE))?
+        .arg(option(alloc, "lost", "WHERE", help::LOST))?
+        .arg(option(alloc, "health", "FILE", help::HEALTH))?
+        .arg(option(alloc, "patience", "SECONDS", help::PATIENCE))?;
+    Ok(live)
+}
+
 // A command with the texts of its help.
 fn command<'a>(alloc: Global, name: &'a str, about: &'a str, example: &'a str) -> Command<'a>
     ensures { app_of result ≡ new_app name.entry.now }
@@ -366,6 +399,9 @@ fn job_of(alloc: Global, matches: &ArgMatches<'_>) -> Result<Job, WordsRefusal>
     }
     if let Some(inner) = matches.subcommand_matches("watermarks") {
         return watermarks_job(alloc, inner);
+    }
+    if let Some(inner) = matches.subcommand_matches("live") {
+        return live_job(alloc, inner);
     }
     // This doesn't come: `wsm_command` has no other subcommand, and requires one.
     Err(WordsRefusal::Memory)
@@ -513,6 +549,31 @@ fn watermarks_job(alloc: Global, inner: &ArgMatches<'_>) -> Result<Job, WordsRef
         last,
         query,
         rows,
+    }))
+}
+
+// The job of the words behind `live`.
+fn live_job(alloc: Global, inner: &ArgMatches<'_>) -> Result<Job, WordsRefusal>
+    ensures job { IfOk result (IsJob (codes "live") (entries_of (found_of inner.now))) }
+    ensures refused { IfErr result IsMemory }
+{
+    let program = flag_of(inner, "program");
+    let from = file_of(alloc, inner, "from")?;
+    let lost = option_of(alloc, inner, "lost")?;
+    let health = option_of(alloc, inner, "health")?;
+    let patience = option_of(alloc, inner, "patience")?;
+    let dir = file_of(alloc, inner, "dir")?;
+    let query = file_of(alloc, inner, "query")?;
+    let log = file_of(alloc, inner, "log")?;
+    Ok(Job::Live(LiveJob {
+        program,
+        from,
+        lost,
+        health,
+        patience,
+        dir,
+        query,
+        log,
     }))
 }
 

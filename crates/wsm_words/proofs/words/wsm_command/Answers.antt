@@ -5,5 +5,5 @@ use Rattle.wsm_words.proofs.words.wsm_command.Goals as goal
 
 pub returns : goal.returns
 returns c =
-    let watermarks_is = c.in_ok-watermarks_command.ensures in
-    c.in_ok-wsm.ensures.shape (third_fails _ _ _ _ (ap (λ (a : App). a.top.is_plain) watermarks_is)) ∙ ap₂ with_subcommand c.in_ok-cutting_commands.ensures (ap (λ (a : App). a.top) watermarks_is)
+    let live_is = c.in_ok-live_command.ensures in
+    c.in_ok-wsm.ensures.shape (third_fails _ _ _ _ (ap (λ (a : App). a.top.is_plain) live_is)) ∙ ap₂ with_subcommand c.in_ok-marking_commands.ensures (ap (λ (a : App). a.top) live_is)
