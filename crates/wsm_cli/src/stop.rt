@@ -113,7 +113,7 @@ impl fmt::Display for WordsFault {
             WordsFault::NoSource => f.write_str(
                 "--source names one of the query's SOURCES, and is left out where it has none",
             ),
-            WordsFault::NoPlace => f.write_str("--lost takes `begin`"),
+            WordsFault::NoPlace => f.write_str("--lost takes the word begin"),
         }
     }
 }
