@@ -4,32 +4,48 @@ All of it is asked by `wsm explain --json` (docs/FORMATS.md, what tools may ask)
 """
 from __future__ import annotations
 
-import json
 import os
 import re
-import subprocess
-import tempfile
-from pathlib import Path
-from typing import Any, Dict, FrozenSet, List, NamedTuple, Optional, Sequence, Tuple
+from typing import IO, TYPE_CHECKING, Any, Dict, FrozenSet, List, NamedTuple, Optional, Sequence, Tuple
 
 from .telling import BAD_QUERY, BAD_READ, BAD_WORDS, REJECTED, Ended, shown
 
-TOP = Path(__file__).resolve().parent.parent.parent
+if TYPE_CHECKING:
+    from subprocess import CompletedProcess
+
+TOP = os.path.dirname(os.path.dirname(os.path.dirname(os.path.realpath(__file__))))
 LONGEST_WINDOW = 10**12
+
+
+def lies_at(*names: str) -> str:
+    """The path of a file of the folder that the tools' folder lies in."""
+    return os.path.join(TOP, *names)
 
 
 def program() -> str:
     """The program that the variable WSM names, or the one beside the tools' folder, or that on PATH."""
-    beside = TOP / "wsm"
-    return os.environ.get("WSM") or (str(beside) if beside.exists() else "wsm")
+    beside = lies_at("wsm")
+    return os.environ.get("WSM") or (beside if os.path.exists(beside) else "wsm")
 
 
-def asked_of(wsm: str, *words: str) -> subprocess.CompletedProcess[str]:
+def asked_of(wsm: str, *words: str) -> CompletedProcess[str]:
     """What the program answers to some words."""
+    import subprocess
+
     try:
         return subprocess.run([wsm, *words], stdin=subprocess.DEVNULL, capture_output=True, encoding="latin-1")
     except OSError as why:
         raise Ended(f"{wsm}: {why.strerror}", BAD_WORDS) from None
+
+
+def written(text: str) -> IO[str]:
+    """A file with a text of one byte a letter, which goes with it."""
+    from tempfile import NamedTemporaryFile
+
+    file = NamedTemporaryFile("w", suffix=".wsm", encoding="latin-1", newline="")
+    file.write(text)
+    file.flush()
+    return file
 
 
 # ---- what it says
@@ -61,10 +77,10 @@ class Answer:
     """What the program says of a text, which it may refuse."""
 
     def __init__(self, wsm: str, text: str) -> None:
+        import json
+
         self.text, self.program = text, wsm
-        with tempfile.NamedTemporaryFile("w", suffix=".wsm", encoding="latin-1", newline="") as file:
-            file.write(text)
-            file.flush()
+        with written(text) as file:
             ran = asked_of(wsm, "explain", "--json", "--query", file.name)
         if ran.returncode not in (0, BAD_QUERY, REJECTED):
             raise Ended(ran.stderr.strip() or f"wsm explain was ended by signal {-ran.returncode}", ran.returncode if ran.returncode > 0 else 1)
@@ -173,9 +189,7 @@ def selected(query: Query, wsm: str, words: Sequence[str], rows: str, end: bytes
     the end row of the query's own run has.
     """
     size = query.size if query.from_window else max(1, min(LONGEST_WINDOW, query.skew + query.lateness))
-    with tempfile.NamedTemporaryFile("w", suffix=".wsm", encoding="latin-1") as file:
-        file.write(selecting(query, f"FIXED {size}", "HAVING COUNT(*) < 0"))
-        file.flush()
+    with written(selecting(query, f"FIXED {size}", "HAVING COUNT(*) < 0")) as file:
         ran = asked_of(wsm, "run", *words, file.name, rows)
     if ran.returncode:
         raise Ended(f"the records of {rows} weren't counted, status {ran.returncode}: {shown(ran.stderr.strip().encode('latin-1'))}", BAD_READ)
@@ -187,9 +201,7 @@ def names_among(wsm: Optional[str], words: Sequence[str]) -> FrozenSet[str]:
     """Those of some words that may be names, by what the program says of keys. Without a program each may be."""
     left = list(dict.fromkeys(word for word in words if "\n" not in word))
     while left and wsm is not None:
-        with tempfile.NamedTemporaryFile("w", encoding="utf-8") as file:
-            file.write("".join(f"{word}\n" for word in left))
-            file.flush()
+        with written("".join(f"{word}\n" for word in left)) as file:
             ran = asked_of(wsm, "deal", "--keys-of", file.name, str(-(-len(left) // 1000)), "0")
         found = re.search(r"K1 BadName in line (\d+)", ran.stderr)
         if ran.returncode == 0 or not found:

@@ -16,7 +16,7 @@ from datetime import datetime, timezone, tzinfo
 from html import escape
 from typing import Any, Dict, Iterator, List, Optional, Sequence, Set, Tuple, Union
 
-from .asking import Query, query_of, selecting
+from .asking import Query, query_of, selecting, written
 from .telling import Ended
 
 STEP = 36  # points for a row, at most
@@ -99,13 +99,9 @@ class Run:
 
     def selected(self) -> Set[int]:
         """The numbers of the rows whose records WHERE takes."""
-        from tempfile import NamedTemporaryFile
-
         query = self.query
         window = f"{query.shape} {query.size}" + (f" EVERY {query.period}" if query.shape == "SLIDING" else "")
-        with NamedTemporaryFile("w", suffix=".wsm") as file:
-            file.write(selecting(query, window, ""))
-            file.flush()
+        with written(selecting(query, window, "")) as file:
             turns = self.turns_of(file.name)
         return {number for number, lines in enumerate(turns, 1) if any(line.startswith(("pane,early,", "pane,late,")) for line in lines)}
 

@@ -21,7 +21,7 @@ from typing import TYPE_CHECKING, Callable, Iterator, List, NamedTuple, Optional
 
 from . import asking, telling
 from .advice import END, NAME, NUMBER, Place, advice, is_in_comment, word_advice
-from .asking import TOP, Answer, Part, Query
+from .asking import Answer, Part, Query
 
 if TYPE_CHECKING:
     from argparse import Namespace
@@ -56,7 +56,8 @@ class Span(NamedTuple):
 
 def page(name: str) -> str:
     try:
-        return (TOP / "docs" / name).read_text(encoding="utf-8")
+        with open(asking.lies_at("docs", name), encoding="utf-8") as file:
+            return file.read()
     except OSError:
         return ""
 
@@ -146,7 +147,9 @@ class Linter:
         self.span: Optional[Span] = None
         self.sentences: List[str] = []
         self.mends: List[Mend] = []
-        self.reserved = re.findall(r"[A-Z]+", (re.search(r"These words are reserved[^`]*`([^`]*)`", page("FORMATS.md")) or [""])[0].split("`")[-2:][0])
+        self.asked: List[str] = []  # what may stand at the place of a fault
+        told = re.search(r"These words are reserved[^`]*`([^`]*)`", page("FORMATS.md"))
+        self.reserved = told[1].split() if told else []
 
     def lines(self) -> List[str]:
         """What is told: the program's line first."""
@@ -216,7 +219,7 @@ class Linter:
         self.span = Span(at, at + max(1, len(token)))
         if name.startswith(("P3", "P4")):
             return
-        asked = self.may_stand(at)
+        asked = self.asked = self.may_stand(at)
         clauses = re.findall(r"[A-Z]+", (re.search(r"Clauses stand in one order: ([^.]*)", page("ERRORS.md")) or ["", ""])[1])
         if said := advice(Place(self.text, at, token, asked, self.reserved, clauses, is_byte)):
             self.sentences.append(said)

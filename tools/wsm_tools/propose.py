@@ -572,9 +572,9 @@ def written(path: Path, text: str) -> None:
 
 def program() -> Optional[str]:
     """The program that WSM names, or that stands beside this tool's folder. The script of a checkout isn't asked to build it."""
-    built, beside = asking.TOP / "crates/wsm_cli/out/wsm_cli", asking.TOP / "wsm"
-    found = built if (asking.TOP / "crates").exists() else beside
-    return os.environ.get("WSM", str(found) if found.exists() else "") or None
+    built, beside = asking.lies_at("crates/wsm_cli/out/wsm_cli"), asking.lies_at("wsm")
+    found = built if os.path.exists(asking.lies_at("crates")) else beside
+    return os.environ.get("WSM", found if os.path.exists(found) else "") or None
 
 
 def tried(found: Proposal, asked: Namespace) -> int:

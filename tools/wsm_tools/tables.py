@@ -5,8 +5,6 @@ import contextlib
 import fcntl
 import os
 import re
-import shutil
-import subprocess
 from itertools import chain
 from typing import IO, TYPE_CHECKING, Callable, Dict, Iterator, List, NamedTuple, Optional, Sequence, Tuple, TypeVar, Union
 
@@ -14,6 +12,7 @@ from .telling import BAD_WRITE, Ended
 
 if TYPE_CHECKING:
     import sqlite3
+    from subprocess import Popen
 
 SEPARATOR = "\x1f"
 Rows = List[Tuple[str, ...]]
@@ -133,11 +132,13 @@ class Server:
     others = unfit = 1
 
     def __init__(self, url: str) -> None:
+        from shutil import which
+
         self.shown = re.sub(r"//[^/@]*@", "//", url.split("?")[0])
-        if not shutil.which("psql"):
+        if not which("psql"):
             raise Ended("there is no psql: install the package postgresql-client", BAD_WRITE)
         self.words = ["psql", "-X", "-q", "-w", "-A", "-t", "-F", SEPARATOR, "-v", "ON_ERROR_STOP=1", url]
-        self.client: Optional[subprocess.Popen[str]] = None
+        self.client: Optional[Popen[str]] = None
 
     def ask(self, statements: Sequence[str], question: str) -> Rows:
         """The rows of a question, behind some statements, in one transaction."""
@@ -151,6 +152,8 @@ class Server:
 
     def told(self, text: str) -> str:
         """What a client answers to statements in one transaction; tables are made by one sink at a time."""
+        import subprocess
+
         lock = "DO $$ BEGIN PERFORM pg_advisory_xact_lock(7967); END $$"
         ran = subprocess.run(self.words, input=f"BEGIN;\n{lock};\n{text}COMMIT;\n", capture_output=True, text=True, env=self.around())
         if ran.returncode:
@@ -163,8 +166,10 @@ class Server:
     def run(self, works: Sequence[Work]) -> None:
         """One transaction."""
         if self.client is None:
-            pipe = subprocess.PIPE
-            self.client = subprocess.Popen(self.words, stdin=pipe, stdout=pipe, stderr=pipe, text=True, env=self.around())
+            from subprocess import PIPE as pipe
+            from subprocess import Popen
+
+            self.client = Popen(self.words, stdin=pipe, stdout=pipe, stderr=pipe, text=True, env=self.around())
         assert self.client.stdin and self.client.stdout
         with contextlib.suppress(OSError):
             text = "".join(f"{statement};\n" for statement in ("BEGIN", *chain.from_iterable(map(written, works)), "COMMIT"))
