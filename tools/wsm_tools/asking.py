@@ -6,7 +6,7 @@ from __future__ import annotations
 
 import os
 import re
-from typing import IO, TYPE_CHECKING, Any, Dict, FrozenSet, List, NamedTuple, Optional, Sequence, Tuple
+from typing import IO, TYPE_CHECKING, Any, Dict, FrozenSet, List, NamedTuple, Optional, Sequence
 
 from .telling import BAD_QUERY, BAD_READ, BAD_WORDS, REJECTED, Ended, shown
 
@@ -98,6 +98,13 @@ class Answer:
     def place(self) -> int:
         """Where the fault of a text lies that can't be read."""
         return int(self.line_begins[self.fault["line"] - 1] + self.fault["column"] - 1)
+
+    def line(self) -> str:
+        """The line that tells of the text: a refusal as `run` tells it, or what is accepted as `verify` does."""
+        if self.status:
+            return f"wsm: {self.fault['told']}"
+        needs = self.said["program"]["costs"]["needs"]
+        return f"accepted,{needs['record']},{needs['pane']},{needs['held']}"
 
     def those(self, *names: str) -> List[Part]:
         return [part for part in self.parts if part.name in names]
@@ -208,12 +215,3 @@ def names_among(wsm: Optional[str], words: Sequence[str]) -> FrozenSet[str]:
             break
         del left[int(found[1]) - 1]
     return frozenset(left)
-
-
-def judged(wsm: str, text: str) -> Tuple[int, str]:
-    """The status of a text, and the line that tells of it: a refusal as `run` tells it, or what is accepted."""
-    answer = Answer(wsm, text)
-    if answer.status:
-        return answer.status, f"wsm: {answer.fault['told']}"
-    needs = answer.said["program"]["costs"]["needs"]
-    return 0, f"accepted,{needs['record']},{needs['pane']},{needs['held']}"

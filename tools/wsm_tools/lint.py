@@ -142,8 +142,8 @@ class Linter:
 
     def __init__(self, program: str, text: str) -> None:
         self.program, self.text = program, text
-        self.status, self.line = asking.judged(program, text)
         self.answer = Answer(program, text)
+        self.status, self.line = self.answer.status, self.answer.line()
         self.span: Optional[Span] = None
         self.sentences: List[str] = []
         self.mends: List[Mend] = []
@@ -175,7 +175,7 @@ class Linter:
 
     def is_mended(self, text: str) -> bool:
         """Whether the program tells this fault no more."""
-        return asking.judged(self.program, text)[1] != self.line
+        return Answer(self.program, text).line() != self.line
 
     def mend(self, told: str, span: Tuple[int, ...], new: str) -> bool:
         """Tells of something in the place of a span, where that mends the query."""

@@ -47,7 +47,7 @@ import sys
 import zlib
 from itertools import groupby
 from operator import methodcaller
-from typing import TYPE_CHECKING, Dict, List, NamedTuple, Optional, Sequence, Tuple
+from typing import TYPE_CHECKING, Dict, List, NamedTuple, Optional, Sequence
 
 from . import asking, telling
 from .columns import NAME, Form
