@@ -441,7 +441,3 @@ def main() -> int:
         if len(lines) < AT_ONCE // 2:
             time.sleep(max(0.0, PAUSE - (time.monotonic() - begun)))
     return 1
-
-
-def begin() -> None:
-    telling.run("gather", main)

@@ -485,7 +485,3 @@ def main() -> int:
             print(f"{chr(10) * (number > 0)}{name}:", flush=True)
         status = max(status, lint(asked.program, name))
     return status
-
-
-def begin() -> None:
-    telling.run("lint", main)

@@ -202,7 +202,3 @@ def main() -> int:
             Signals.is_waiting = False
             processes.end()
     return 0
-
-
-def begin() -> None:
-    telling.run("many", main)

@@ -665,7 +665,3 @@ def main() -> int:
     except OSError as why:
         raise Ended(str(why)) from None
     return 0
-
-
-def begin() -> None:
-    telling.run("many-keys", main)

@@ -56,7 +56,3 @@ def main() -> int:
         return why.status
     except OSError as why:
         raise Ended(str(why)) from None
-
-
-def begin() -> None:
-    telling.run("picture", main)

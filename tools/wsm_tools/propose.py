@@ -649,7 +649,3 @@ def main() -> int:
         rows.take([whole([line], at == 0) for at, line in enumerate(lines)])
     head_of_rows(rows, asked)
     return 0
-
-
-def begin() -> None:
-    telling.run("propose", main)

@@ -221,7 +221,3 @@ def main() -> int:
     except OSError as why:
         os.dup2(os.open(os.devnull, os.O_WRONLY), 1)  # what is still to be written has nowhere to go
         raise Ended(f"write failed: {why.strerror}", BAD_WRITE) from None
-
-
-def begin() -> None:
-    telling.run("show", main)

@@ -340,7 +340,3 @@ def main() -> int:
     finally:
         sink.place.close()
     return 0
-
-
-def begin() -> None:
-    telling.run("sink", main)
