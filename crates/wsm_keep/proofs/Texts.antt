@@ -1,13 +1,14 @@
 -- Texts behind the others change none in front of them.
-use Rattle.std.proofs.Common.{◌≡◌, ℕ, ◌≤◌, List, [], ◌∷◌, ◌++◌, length, reverse, sym, ap, ◌∙◌, arith}
-use Rattle.std.proofs.lemmas.List.{drop_at, length-append, reverse-append, take-append-le}
-use Rattle.std.proofs.lemmas.List.Elements.{All-head, All-push, All-same, All-tail, All-weaker, recursion_from_All}
+use Rattle.std.proofs.Common.{◌≡◌, ℕ, ◌+◌, ◌≤◌, List, [], ◌∷◌, ◌++◌, length, map, reverse, take, refl, sym, ap, ◌∙◌, arith}
+use Rattle.std.proofs.lemmas.List.{drop_at, length-append, map-append, reverse-append, take-append-le}
+use Rattle.std.proofs.lemmas.List.Elements.{All-push, All-weaker, recursion_from_All}
 use Rattle.std.proofs.lemmas.Slice.{between_is, between_to_end}
+use Rattle.std.proofs.Math.Seq.{drop-append-add, take-append-add}
 use Rattle.std.specs.Prelude.{drop, slice_range}
 use Rattle.std.specs.List.{All}
 use Rattle.wsm_semantics.proofs.Each.{map-each}
 use Rattle.wsm_keep.specs.declared.queue.Item.{Item}
-use Rattle.wsm_keep.specs.Items.{Lies, item_of, queue_of}
+use Rattle.wsm_keep.specs.Items.{Lies, behind, item_of, queue_of}
 use Rattle.wsm_keep.proofs.Items.{queue_of-more}
 
 module _ (texts more : List ℕ) where
@@ -32,6 +33,24 @@ module _ (texts more : List ℕ) where
   pub all_lie : (items : List Item) → All (Lies texts) items → All (Lies (texts ++ more)) items
   all_lie items lie = All-weaker (Lies texts) (Lies (texts ++ more)) lies_still items lie
 
+  -- of texts behind the others
+  range_behind : (a b : ℕ) → slice_range (texts ++ more) (length texts + a) (length texts + b) ≡ slice_range more a b
+  range_behind a b =
+      between_is (texts ++ more) (length texts + a) (length texts + b)
+      ∙ ap (drop (length texts + a)) (take-append-add texts more b)
+      ∙ drop-append-add texts (take b more) a
+      ∙ sym (between_is more a b)
+
+  items_behind : (items : List Item) → map (item_of (texts ++ more)) (map (behind (length texts)) items) ≡ map (item_of more) items
+  items_behind [] = refl
+  items_behind (i ∷ items) = λ at. (i.what, range_behind i.start i.end at) ∷ items_behind items at
+
+  pub all_added : (items : List Item) → All (Lies texts) items → (newer : List Item) → queue_of (texts ++ more) (items ++ map (behind (length texts)) newer) ≡ queue_of more newer ++ queue_of texts items
+  all_added items lie newer =
+      ap reverse (map-append (item_of (texts ++ more)) items (map (behind (length texts)) newer))
+      ∙ reverse-append (map (item_of (texts ++ more)) items) (map (item_of (texts ++ more)) (map (behind (length texts)) newer))
+      ∙ (λ at. reverse (items_behind newer at) ++ queue_stays items lie at)
+
 -- a text behind the others, at its item
 module _ (texts text : List ℕ) (items : List Item) (lie : All (Lies texts) items) (item : Item) (from : item.start ≡ length texts) (to : item.end ≡ length (texts ++ text)) where
   text_there : slice_range (texts ++ text) item.start item.end ≡ text
@@ -46,8 +65,3 @@ module _ (texts text : List ℕ) (items : List Item) (lie : All (Lies texts) ite
 
   pub item_lies : All (Lies (texts ++ text)) (items ++ item ∷ [])
   item_lies = All-push (Lies (texts ++ text)) items item (all_lie texts text items lie) (omega (arith, from, to, length-append texts text), omega (arith, to))
-
--- the other way round
-pub all_turned : (P : Item → Type 0) (items : List Item) → All P items → All P (reverse items)
-all_turned P [] all = all
-all_turned P (i ∷ items) all = All-same P (reverse (i ∷ items)) (reverse items ++ i ∷ []) (reverse-append (i ∷ []) items) (All-push P (reverse items) i (all_turned P items (All-tail P i items all)) (All-head P i items all))

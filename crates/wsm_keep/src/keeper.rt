@@ -19,6 +19,9 @@ use wsm_windows::{Shape, is_time};
 // How many rows are in a queue at least before it is cut.
 const FEW: usize = 4096;
 
+// How many there are then for each that stayed at the last cut. Each cut looks at all of them.
+const GROWTH: usize = 4;
+
 /// What is told of an event: what it does, the watermark before where the event raises it, and the watermark then.
 #[derive(Clone, Copy)]
 pub struct Judged {
@@ -88,7 +91,7 @@ impl Keeper {
         self.queue_row(judged, text)?;
         if self.most <= self.queue.len() {
             self.cut()?;
-            self.most = self.queue.len().saturating_mul(2).max(FEW);
+            self.most = self.queue.len().saturating_mul(GROWTH).max(FEW);
         }
         Ok(())
     }

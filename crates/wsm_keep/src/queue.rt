@@ -5,7 +5,7 @@ ghost use Rattle.std.specs.List.{All};
 ghost use Rattle.wsm_semantics.specs.Needed.{is_one_of};
 ghost use Rattle.wsm_keep.specs.Staying as spec;
 ghost use Rattle.wsm_keep.specs.Staying.{done_by, row_of};
-ghost use Rattle.wsm_keep.specs.Items.{Lies, joined, queue_of, times_of};
+ghost use Rattle.wsm_keep.specs.Items.{Lies, MayStand, behind, joined, queue_of, times_of};
 
 use crate::firsts::Firsts;
 use crate::what::What;
@@ -73,7 +73,9 @@ impl Queue {
     pub fn append(&mut self, newer: &Queue) -> Result<(), AllocError>
         ensures { OnOk result (self.new ≡ newer.now ++ self.old) }
     {
-        self.push_all(&newer.texts, &newer.items)
+        let front = self.texts.len();
+        self.texts.extend_from_slice(&newer.texts)?;
+        add_behind(&mut self.items, front, &newer.items)
     }
 
     // Adds a row of each item, with its text among these.
@@ -120,9 +122,52 @@ impl Queue {
             }
         }
         kept.reverse();
-        let mut queue = Queue::new(alloc);
-        queue.push_all(&texts, &kept)?;
+        Queue { texts, items: kept }.packed()
+    }
+
+    // The same rows, and no other texts where these have less than half of the bytes.
+    fn packed(self) -> Result<Queue, AllocError>
+        ensures { IfOk result (λ q. q ≡ self) }
+    {
+        if self.texts.len() / 2 <= bytes_of(&self.items) {
+            return Ok(self);
+        }
+        let mut queue = Queue::new(self.allocator());
+        queue.push_all(&self.texts, &self.items)?;
         Ok(queue)
+    }
+}
+
+// How many bytes the texts of items have.
+fn bytes_of(items: &[Item]) -> usize {
+    let mut bytes = 0usize;
+    for item in items {
+        bytes = bytes.saturating_add(item.end.saturating_sub(item.start));
+    }
+    bytes
+}
+
+// Adds items whose texts stand behind so many bytes more.
+fn add_behind(items: &mut Vec<Item>, front: usize, newer: &[Item]) -> Result<(), AllocError>
+    requires { All (MayStand front) newer.now }
+    ensures items { OnOk result (items.new.items ≡ items.old.items ++ map (behind front) newer.now) }
+    ensures lie { (texts : List ℕ) → All (Lies texts) items.old.items → All (λ i. Lies texts (behind front i)) newer.now → All (Lies texts) items.new.items }
+{
+    for item in newer {
+        items.push(item_behind(*item, front))?;
+    }
+    Ok(())
+}
+
+// An item whose text stands behind so many bytes more.
+fn item_behind(item: Item, front: usize) -> Item
+    requires { MayStand front item }
+    ensures { result ≡ behind front item }
+{
+    Item {
+        what: item.what,
+        start: front + item.start,
+        end: front + item.end,
     }
 }
 

@@ -1,13 +1,13 @@
-use Rattle.std.proofs.Common.{rules, ◌≡◌, ◌++◌, ◌∷◌, [], ℕ, true, false, List, map, reverse, Some, sym, ap, subst, ◌∙◌, append-nil}
+use Rattle.std.proofs.Common.{rules, ◌≡◌, ◌++◌, ◌∷◌, [], ℕ, true, false, List, map, reverse, Some, sym, ap, ◌∙◌, append-nil}
 use Rattle.std.proofs.lemmas.List.Elements.{All-pop, All-push, All-same}
+use Rattle.std.proofs.lemmas.Result.{IfOk-weaker}
 use Rattle.std.specs.List.{All}
 use Rattle.wsm_semantics.specs.FromWatermark.{Times}
 use Rattle.wsm_keep.specs.declared.queue.Item.{Item}
 use Rattle.wsm_keep.specs.Items.{Lies, item_of, queue_of, times_of}
 use Rattle.wsm_keep.specs.Staying as spec
-use Rattle.wsm_keep.specs.Staying.{told_after}
+use Rattle.wsm_keep.specs.Staying.{done_by, told_after}
 use Rattle.wsm_keep.proofs.Items.{left_of, one_goes, one_stays, queue_of-reverse}
-use Rattle.wsm_keep.proofs.Texts.{all_turned}
 use Rattle.wsm_keep.proofs.queue.Queue.thinned.Goals as goal
 
 pub loop-item-preserved-in-Continue-branch-2 : goal.loop-item-preserved-in-Continue-branch-2
@@ -50,25 +50,18 @@ loop-item-preserved c =
       (All-pop (Lies texts) c.loop-item.items.items rest (Some item) was left).0,
     )
 
-pub push_all-requires : goal.push_all-requires
-push_all-requires c =
-    let texts : List ℕ = c.self.inside.texts.items in
-    let kept : List Item = c.loop-item.kept.items in
-    let (all, lie, left) = c.loop-item.invariant in
-    subst (λ (ts : List ℕ). All (Lies ts) c.deref-3.result.now) (sym c.deref-2.ensures.value)
-    (All-same (Lies texts) c.deref-3.result.now (reverse kept) (c.deref-3.ensures.value ∙ c.reverse.ensures.items) (all_turned (Lies texts) kept lie))
-
 pub returns : goal.returns
 returns c =
     let texts : List ℕ = c.self.inside.texts.items in
     let x : Times = times_of c.args.firsts.now in
     let kept : List Item = c.loop-item.kept.items in
+    let told : List ℕ = c.loop-item.told.items in
     let empty : c.loop-item.items.items ≡ [] = search rules in
     let (all, lie, left) = c.loop-item.invariant in
-    c.in_ok-push_all.ensures
-    ∙ (λ i. queue_of (c.deref-2.ensures.value i) ((c.deref-3.ensures.value ∙ c.reverse.ensures.items) i) ++ c.new-queue.ensures i)
-    ∙ append-nil (queue_of texts (reverse kept))
+    let are : queue_of texts c.reverse.new.self.items ≡ spec.thinned done_by x [] c.args.self =
+    ap (queue_of texts) c.reverse.ensures.items
     ∙ queue_of-reverse texts kept
     ∙ sym (append-nil (map (item_of texts) kept))
-    ∙ ap (λ (items : List Item). left_of texts x kept c.loop-item.told.items items) (sym empty)
-    ∙ all
+    ∙ ap (left_of texts x kept told) (sym empty)
+    ∙ all in
+    IfOk-weaker c.packed.result (λ q. q ≡ queue_of texts c.reverse.new.self.items) (λ q. q ≡ spec.thinned done_by x [] c.args.self) (λ q is. is ∙ are) c.packed.ensures
