@@ -4,8 +4,8 @@
 //! of the old one, is synced, and is renamed to it: so who reads finds the old file whole, or the new one.
 //! [`WholeLines`] reads the lines that are to be rewritten, and hands on all that is behind them.
 //!
-//! What a file has no clause can say: of these calls it is proved that they are safe and end. `trials/keep` tries what
-//! they do to files.
+//! What a file has no clause can say: of a [`Place`] it is proved that its calls are safe and end. `trials/keep` tries
+//! what they do to files. Of [`WholeLines`] it is proved which bytes it reads and hands on.
 #![tactic(auto)]
 
 pub use fault::ReplaceFault;

@@ -1,5 +1,11 @@
 //! The whole lines of a reader.
 
+ghost use Rattle.std.specs.Prelude.{◌≡◌, ◌++◌, ◌<◌, ◌≤◌, ℕ, List, [], false, take, length, IfOk, OnOk, IfSome};
+ghost use Rattle.std.specs.Io.{ReadsAtMost};
+ghost use Rattle.std.specs.Io.Iter.{u64_saturate};
+ghost use Rattle.std.specs.Io.KnownBytes.{Appends, Consumes, IsAtEnd, Keeps};
+ghost use Rattle.wsm_replace.specs.Lines.{HasNone, input_of, lines_left, behind, unread};
+
 use crate::fault::{ReplaceFault, reading};
 use memchr::{memchr, memrchr};
 use std::alloc::{AllocError, Global};
@@ -41,7 +47,9 @@ pub struct WholeLines<I> {
 
 impl<I: Read + Drop> WholeLines<I> {
     /// The lines among so many bytes of a reader.
-    pub fn new(alloc: Global, input: I, most: u64) -> Result<WholeLines<I>, AllocError> {
+    pub fn new(alloc: Global, input: I, most: u64) -> Result<WholeLines<I>, AllocError>
+        ensures { IfOk result (λ lines. unread I.remaining lines ≡ I.remaining input) }
+    {
         let mut chunk = Vec::new(alloc);
         chunk.resize(CHUNK, 0)?;
         Ok(WholeLines {
@@ -61,7 +69,9 @@ impl<I: Read + Drop> WholeLines<I> {
     }
 
     /// Writes what was read of a line behind them and what the reader still has, and has it leave.
-    pub fn hand_on<W: Write>(&mut self, out: &mut W) -> Result<(), ReplaceFault> {
+    pub fn hand_on<W: Write>(&mut self, out: &mut W) -> Result<(), ReplaceFault>
+        ensures { OnOk result (IfSome (behind I.remaining self.old) (Appends (W.contents out.old) (W.contents out.new))) }
+    {
         all_written(out, &self.begun)?;
         self.hand_rest(out)?;
         match out.flush() {
@@ -71,29 +81,18 @@ impl<I: Read + Drop> WholeLines<I> {
     }
 
     /// Writes what the reader still has, and answers how many bytes that were.
-    pub fn hand_rest<W: Write>(&mut self, out: &mut W) -> Result<u64, ReplaceFault> {
-        let mut count = 0u64;
-        for _ in 0..u64::MAX {
-            let bytes = self.behind()?;
-            if bytes.is_empty() {
-                break;
-            }
-            count = count.saturating_add(bytes.len() as u64);
-            all_written(out, bytes)?;
-        }
-        Ok(count)
-    }
-
-    // The next bytes of the reader; none at the end.
-    fn behind(&mut self) -> Result<&[u8], ReplaceFault> {
-        match read_some(&mut self.input, &mut self.chunk) {
-            Ok(count) => Ok(self.chunk.get(..count).unwrap_or_default()),
-            Err(error) => Err(reading(&error)),
-        }
+    pub fn hand_rest<W: Write>(&mut self, out: &mut W) -> Result<u64, ReplaceFault>
+        ensures bytes { OnOk result (IfSome (I.remaining (input_of self.old)) (Appends (W.contents out.old) (W.contents out.new))) }
+        ensures count { IfOk result (λ count. IfSome (I.remaining (input_of self.old)) (λ bytes. count ≡ u64_saturate (length bytes))) }
+    {
+        copied(&mut self.input, out)
     }
 
     // Reads lines in the place of those that were handed on: none at the end.
-    fn fill(&mut self) -> io::Result<()> {
+    fn fill(&mut self) -> io::Result<()>
+        requires { lines_left self.old ≡ [] }
+        ensures { OnOk result (Keeps (unread I.remaining self.old) (unread I.remaining self.new)) }
+    {
         self.lines.clear();
         self.given = 0;
         for _ in 0..u64::MAX {
@@ -105,10 +104,12 @@ impl<I: Read + Drop> WholeLines<I> {
     }
 
     // Reads bytes, and answers whether that is all for now.
-    fn has_lines(&mut self) -> io::Result<bool> {
-        let left = usize::try_from(self.left).unwrap_or(usize::MAX);
-        let room = left.min(self.chunk.len());
-        let count = read_some(&mut self.input, &mut self.chunk[..room])?;
+    fn has_lines(&mut self) -> io::Result<bool>
+        requires { HasNone self.old }
+        ensures kept { OnOk result (Keeps (unread I.remaining self.old) (unread I.remaining self.new)) }
+        ensures none { IfOk result (λ is_all. is_all ≡ false → HasNone self.new) }
+    {
+        let count = self.read_on()?;
         self.left = self.left.saturating_sub(count as u64);
         match self.take(count) {
             Ok(is_all) => Ok(is_all),
@@ -119,9 +120,26 @@ impl<I: Read + Drop> WholeLines<I> {
         }
     }
 
+    // Reads bytes that may still be read for lines, and answers how many.
+    fn read_on(&mut self) -> io::Result<usize>
+        ensures bound { IfOk result (λ count. count ≤ length self.new.chunk.items) }
+        ensures read { IfOk result (λ count. Consumes (I.remaining self.old.input) (I.remaining self.new.input) (take count self.new.chunk.items)) }
+        ensures lines { (self.new.lines.items ≡ self.old.lines.items) × (self.new.given ≡ self.old.given) }
+        ensures begun { self.new.begun.items ≡ self.old.begun.items }
+    {
+        let left = usize::try_from(self.left).unwrap_or(usize::MAX);
+        self.chunk.truncate(left);
+        read_some(&mut self.input, &mut self.chunk)
+    }
+
     // Takes so many bytes that were read, and answers whether that is all for now.
-    fn take(&mut self, count: usize) -> Result<bool, LinesFault> {
-        let read = self.chunk.get(..count).unwrap_or_default();
+    fn take(&mut self, count: usize) -> Result<bool, LinesFault>
+        requires { count ≤ length self.old.chunk.items }
+        ensures taken { OnOk result (self.new.lines.items ++ self.new.begun.items ≡ self.old.lines.items ++ (self.old.begun.items ++ take count self.old.chunk.items)) }
+        ensures none { IfOk result (λ is_all. is_all ≡ false → self.new.lines.items ≡ self.old.lines.items) }
+        ensures same { (self.new.given ≡ self.old.given) × (self.new.input ≡ self.old.input) }
+    {
+        let read = &self.chunk[..count];
         if memchr(b'"', read).is_some() {
             return Err(LinesFault::Quote);
         }
@@ -139,7 +157,11 @@ impl<I: Read + Drop> WholeLines<I> {
 }
 
 impl<I: Read + Drop> Read for WholeLines<I> {
-    fn read(&mut self, buf: &mut [u8]) -> io::Result<usize> {
+    fn read(&mut self, buf: &mut [u8]) -> io::Result<usize>
+        ensures bound { ReadsAtMost result buf.new }
+        ensures taken { IfOk result (λ count. Consumes (unread I.remaining self.old) (unread I.remaining self.new) (take count buf.new)) }
+        ensures spent { IfOk result (λ count. count ≡ 0 → 0 < length buf.old → lines_left self.new ≡ []) }
+    {
         if self.given == self.lines.len() {
             self.fill()?;
         }
@@ -150,20 +172,58 @@ impl<I: Read + Drop> Read for WholeLines<I> {
     }
 }
 
-fn all_written<W: Write>(out: &mut W, bytes: &[u8]) -> Result<(), ReplaceFault> {
+fn all_written<W: Write>(out: &mut W, bytes: &[u8]) -> Result<(), ReplaceFault>
+    ensures { OnOk result (Appends (W.contents out.old) (W.contents out.new) bytes.now) }
+{
     match out.write_all(bytes) {
         Ok(()) => Ok(()),
         Err(_) => Err(ReplaceFault::WriteFailed),
     }
 }
 
+// Copies a reader to its end, and answers how many bytes that were.
+fn copied<I: Read, W: Write>(input: &mut I, out: &mut W) -> Result<u64, ReplaceFault>
+    ensures bytes { OnOk result (IfSome (I.remaining input.old) (Appends (W.contents out.old) (W.contents out.new))) }
+    ensures count { IfOk result (λ count. IfSome (I.remaining input.old) (λ bytes. count ≡ u64_saturate (length bytes))) }
+{
+    let mut total = 0u64;
+    for _ in 0..u64::MAX {
+        let count = copy_some(input, out)?;
+        if count == 0 {
+            return Ok(total);
+        }
+        total = total.saturating_add(count as u64);
+    }
+    Err(ReplaceFault::ReadFailed)
+}
+
+// Copies the next bytes of a reader, and answers how many: none at its end.
+fn copy_some<I: Read, W: Write>(input: &mut I, out: &mut W) -> Result<usize, ReplaceFault>
+    ensures moved { IfOk result (λ count. (bytes : List ℕ) × (length bytes ≡ count)
+        × Consumes (I.remaining input.old) (I.remaining input.new) bytes
+        × Appends (W.contents out.old) (W.contents out.new) bytes) }
+    ensures end { IfOk result (λ count. count ≡ 0 → IsAtEnd (I.remaining input.new)) }
+{
+    let mut chunk = [0u8; 8192];
+    let count = match read_some(input, &mut chunk) {
+        Ok(count) => count,
+        Err(error) => return Err(reading(&error)),
+    };
+    all_written(out, &chunk[..count])?;
+    Ok(count)
+}
+
 // Reads, again where a signal came in between.
-fn read_some<I: Read>(input: &mut I, buf: &mut [u8]) -> io::Result<usize> {
+fn read_some<I: Read>(input: &mut I, buf: &mut [u8]) -> io::Result<usize>
+    ensures bound { ReadsAtMost result buf.new }
+    ensures ok { IfOk result (λ count. Consumes (I.remaining input.old) (I.remaining input.new) (take count buf.new)) }
+    ensures end { IfOk result (λ count. count ≡ 0 → 0 < length buf.old → IsAtEnd (I.remaining input.new)) }
+{
     for _ in 0..u64::MAX {
         match input.read(buf) {
             Err(error) if error.kind() == ErrorKind::Interrupted => {}
             answer => return answer,
         }
     }
-    Ok(0)
+    Err(io::Error::from(ErrorKind::Interrupted))
 }
