@@ -74,7 +74,8 @@ impl Intake {
     ghost use Rattle.wsm_turns.specs.Voices.{stamp_by, voiced};
     ghost use Rattle.wsm_turns.specs.Heard.{left_by};
     ghost use Rattle.wsm_turns.specs.Turns.{Kept, turn_by};
-    ghost use Rattle.wsm_intake.specs.Intake.{Said, fault_count, fault_text, left_at, line_behind, turn_at, voiced_in};
+    ghost use Rattle.wsm_intake.specs.Counts.{counts_of};
+    ghost use Rattle.wsm_intake.specs.Intake.{Said, fault_count, fault_text, left_at, line_behind, said, turn_at, voiced_in};
     ghost use Rattle.wsm_intake.specs.Tells.{Serves};
     ghost use Rattle.wsm_intake.specs.Turns.{Ends, Fits, Goes, Holds, Speaks, Turned, line_of, setting_by, spoken_read};
 
@@ -198,21 +199,42 @@ impl Intake {
     pub fn end(&mut self) -> Result<LogTotals, AllocError>
         ensures { (s : AnySource) (clocks : Option AnyClocks) (p : Program) (lines : List (List ℕ)) → Fits s clocks p self.old lines → IfOk result (Ends s clocks p self.new lines) }
     {
+        let counts = self.counts();
         self.told.lines.clear();
-        let counts = LogCounts {
-            doubles: self.doubles,
-            silent: self.silent,
-            heard: clocks_heard(&self.waiting),
-        };
         take_rest(&self.waiting, &mut self.told)?;
         let totals = self.totals();
         end_text(totals, &mut self.told.lines)?;
         Ok(LogTotals { totals, counts })
     }
 
+    /// How many lines were taken.
+    pub fn taken(&self) -> u64
+        ensures { result ≡ self.now.taken }
+    {
+        self.taken
+    }
+
+    /// What is counted of the lines so far.
+    pub fn counts(&self) -> LogCounts
+        ensures { (s : AnySource) (clocks : Option AnyClocks) (p : Program) (lines : List (List ℕ)) → Fits s clocks p self.now lines → result ≡ counts_of (query_of p) clocks (said s clocks p.header.schema lines) }
+    {
+        LogCounts {
+            doubles: self.doubles,
+            silent: self.silent,
+            heard: clocks_heard(&self.waiting),
+        }
+    }
+
     /// Tells a listener what the clocks have come to, where there are any and it is told after as many lines.
     pub fn tell<L: Listener>(&self, listener: &mut L) {
         tell_heard(&self.waiting, self.taken, listener);
+    }
+
+    /// The bytes that are written for the last line.
+    pub fn lines(&self) -> &[u8]
+        ensures { result.now ≡ self.now.told.lines.items }
+    {
+        &self.told.lines
     }
 
     /// Gives a device the bytes. Where it can't, it took a beginning of them and has failed.
@@ -226,8 +248,8 @@ impl Intake {
         write_out(out, &self.told.lines)
     }
 
-    // What all turns come to.
-    fn totals(&self) -> Totals
+    /// What all turns come to.
+    pub fn totals(&self) -> Totals
         ensures { (p : Program) (past : List AnyEvent) (lines : List Said) → Serves p self.now.told past → self.now.taken ≡ length lines → self.now.faults ≡ counter (fault_count lines) →
             line_of result ≡ line_behind (query_of p) lines past }
     {

@@ -1,6 +1,7 @@
 //! From the lines of a log to what a query writes: one function of lines, in their order.
 #![tactic(auto)]
 
+pub use intake::Intake;
 pub use run::run_log;
 pub use totals::{LogCounts, LogTotals};
 pub use wsm_log_rows::LogEnd;

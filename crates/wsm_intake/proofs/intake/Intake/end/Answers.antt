@@ -22,5 +22,5 @@ returns c = λ s clocks p lines fits.
           ∙ ap (λ (l : List ℕ). l ++ line_text d (line_of c.totals-totals.result)) (told.text ∙ ap (λ (l : List ℕ). l ++ rest) c.clear.ensures.items)
           ∙ ap (λ (l : Line). rest ++ line_text d l) numbers;
       numbers = numbers;
-      counts = λ i. record { doubles = fits.doubles i; silent = fits.silent i; heard = c.clocks_heard.ensures clocks (count_in clocks (length d.keys)) k fits.holds.waiting i };
+      counts = c.counts-counts.ensures s clocks p lines fits;
     }
