@@ -25,13 +25,13 @@ INT, BOOL = "INT", "BOOL"  # the other types are numbers: 0 is the key's ENUM, f
 class Refused(Exception):
     """A query that is refused; its text is what is told.
 
-    Beside it stands what is known of the fault: the place in the text and what was asked for there, the expression,
-    or the limits that aren't kept, each as what was counted, its number, and the least and the most that are allowed.
+    Beside it stands what is known of the fault: the place in the text and what was asked for there, or the limits that
+    aren't kept, each as what was counted, its number, and the least and the most that are allowed.
     """
 
-    def __init__(self, text, place=None, asked=(), expr=None, limits=()):
+    def __init__(self, text, place=None, asked=(), limits=()):
         super().__init__(text)
-        self.place, self.asked, self.expr, self.limits = place, list(asked), expr, list(limits)
+        self.place, self.asked, self.limits = place, list(asked), list(limits)
 
 
 # ---- cells of rows
@@ -149,23 +149,9 @@ class Tokens:
 
 # ---- expressions: a tree of tuples, its head first
 
-class Node(tuple):
-    """An expression that was read; it begins and ends at these places of the text."""
-
-    def at(self, begin, end):
-        self.begin, self.end = begin, end
-        return self
-
-
 class Expressions:
     def __init__(self, tokens):
         self.tokens, self.depth = tokens, 0
-
-    def place(self):
-        return self.tokens.peek()[2]
-
-    def node(self, begin, *parts):
-        return Node(parts).at(begin, self.tokens.end)
 
     def open(self):
         self.depth += 1
@@ -178,7 +164,7 @@ class Expressions:
             length += 1
             if length > LONGEST_CHAIN:
                 self.tokens.refuse("P4 TooDeep", self.tokens.peek()[2])
-            x = self.node(x.begin, self.tokens.take(*words), x, part())
+            x = self.tokens.take(*words), x, part()
         return x
 
     def whole(self):
@@ -189,12 +175,11 @@ class Expressions:
 
     def under(self, head, word, part):
         """What stands behind a word that opens a level, as far as its operand goes."""
-        begin = self.place()
         self.open()
         self.tokens.take(word)
         x = part()
         self.depth -= 1
-        return self.node(begin, head, x)
+        return head, x
 
     def negation(self):
         return self.under("NOT", "NOT", self.negation) if self.tokens.sees("NOT") else self.comparison()
@@ -202,7 +187,7 @@ class Expressions:
     def comparison(self):
         x = self.sum()
         if self.tokens.sees(*COMPARISONS):
-            return self.node(x.begin, self.tokens.take(*COMPARISONS), x, self.sum())
+            return self.tokens.take(*COMPARISONS), x, self.sum()
         return x
 
     def sum(self):
@@ -215,10 +200,6 @@ class Expressions:
         return self.under("negative", "-", self.unary) if self.tokens.sees("-") else self.atom()
 
     def atom(self):
-        begin = self.place()
-        return self.node(begin, *self.parts_of_atom())
-
-    def parts_of_atom(self):
         tokens = self.tokens
         if tokens.is_of("number"):
             return "number", tokens.number()
@@ -432,7 +413,7 @@ class Query:
 
     def check_condition(self, part, expr):
         if self.type_of(part, expr) != BOOL:
-            raise Refused(f"C2 Type in {part}", expr=expr)
+            raise Refused(f"C2 Type in {part}")
 
     def field_number(self, name):
         return next((number for number, found in enumerate(self.fields) if found.name == name), None)
@@ -444,7 +425,7 @@ class Query:
     def type_of(self, part, expr, in_aggregate=False):
         """The type of an expression; the first fault on a walk from the left, parts before the whole, is raised."""
         def refuse(name):
-            raise Refused(f"{name} in {part}", expr=expr)
+            raise Refused(f"{name} in {part}")
 
         def known(number):
             if number is None:
