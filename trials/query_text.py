@@ -1,7 +1,7 @@
 """Query texts, for trials/reference.py: reading, checks, and what an expression means.
 
-Nothing here is shared with the crates or with the tools. A text is read from the left, and the first fault is told with its line
-and column; a query that was read is checked part by part. Parts and expressions keep their places in the text.
+Nothing here is shared with the crates or with the tools. A text is read from the left, and the first fault is told with
+its line and column; a query that was read is checked part by part. Parts keep their places in the text.
 """
 import re
 from contextlib import contextmanager
