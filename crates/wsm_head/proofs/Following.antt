@@ -1,5 +1,5 @@
 -- What follows on a history and on one that stands for it.
-use Rattle.std.proofs.Common.{◌≡◌, ◌⊎◌, ℕ, ◌+◌, ◌≤◌, Bool, not, List, ◌∷◌, ℤ, pos, ◌≤ℤ◌, Option, Some, None, inl, inr, refl, sym, ap, ◌∙◌, arith}
+use Rattle.std.proofs.Common.{◌≡◌, ◌⊎◌, ℕ, ◌+◌, Bool, not, List, ◌∷◌, ℤ, pos, ◌≤ℤ◌, Option, Some, None, inl, inr, sym, ap, ◌∙◌, arith}
 use Rattle.std.proofs.lemmas.Bool.Decides.{nat_tests}
 use Rattle.std.specs.Prelude.{nat_le, unsigned_abs}
 use Rattle.wsm_record.specs.declared.words.Form.TheVariants as form

@@ -16,7 +16,6 @@ use Rattle.wsm_semantics.specs.Relation.{relation}
 use Rattle.wsm_semantics.specs.Summaries.{IsLawful, Plan, Runs}
 use Rattle.wsm_semantics.specs.ByKey.{HasRoom, with_records}
 use Rattle.wsm_semantics.specs.FromKept.{KeepAlike}
-use Rattle.wsm_semantics.specs.FromWatermark.{BothHaveRoom}
 use Rattle.wsm_semantics.specs.Needed.{needed, needed_by}
 use Rattle.wsm_semantics.proofs.KeyParts.{first_rule, no_fewer}
 use Rattle.wsm_semantics.proofs.LaterMarks.{next_marks}

@@ -1,5 +1,5 @@
 -- The turns of lines, where another history stands for the events that the query was fed.
-use Rattle.std.proofs.Common.{◌≡◌, ◌∙◌, ◌++◌, ℕ, ◌+◌, Bool, true, false, cond, List, [], ◌∷◌, append-nil, append_assoc, length, length-append, map, ℤ, pos, ◌≤ℤ◌, Option, Some, None, Ok, Err, refl, sym, ap, subst, arith}
+use Rattle.std.proofs.Common.{◌≡◌, ◌∙◌, ◌++◌, ℕ, ◌+◌, true, false, cond, List, [], ◌∷◌, append-nil, append_assoc, length, length-append, map, ℤ, pos, ◌≤ℤ◌, Option, Some, None, Ok, Err, refl, sym, ap, subst}
 use Rattle.wsm_record.specs.Event.{Event}
 use Rattle.wsm_windows.specs.Windows.{IsShape}
 use Rattle.wsm_watermarks.specs.declared.held.Timed.{Timed}

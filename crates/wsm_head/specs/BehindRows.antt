@@ -12,7 +12,7 @@ use Rattle.wsm_semantics.specs.Lines.{Line, Out, Refused}
 use Rattle.wsm_semantics.specs.Rows.{base, ints}
 use Rattle.wsm_semantics.specs.ByKey.{with_records}
 use Rattle.wsm_turns.specs.declared.voice.Voice.TheVariants.{Key}
-use Rattle.wsm_turns.specs.Turns.{Kept, Said as AnySaid, kept, setting_of}
+use Rattle.wsm_turns.specs.Turns.{Said as AnySaid, kept, setting_of}
 use Rattle.wsm_head.specs.Behind.{lines_behind, lines_written, needed_of}
 
 -- windows of 10, LATENESS 10, RECORDS 5

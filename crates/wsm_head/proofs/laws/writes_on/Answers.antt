@@ -1,16 +1,12 @@
-use Rattle.std.proofs.Common.{◌∙◌, ◌++◌, ◌≡◌, ℤ, List, length, Option, refl, sym, ap}
-use Rattle.std.specs.Prelude.{IsTrue}
-use Rattle.wsm_semantics.specs.Query.{Query}
+use Rattle.std.proofs.Common.{◌∙◌, ◌++◌, List, length, refl, sym, ap}
 use Rattle.wsm_semantics.specs.Lines.{Line}
-use Rattle.wsm_program.specs.Program.{Program, is_program}
 use Rattle.wsm_rules.proofs.Lawful.{lawful}
 use Rattle.wsm_machine.specs.Meaning.{plan_of, query_of}
 use Rattle.wsm_machine.proofs.QueryFolds.{plan_lawful, plan_runs}
 use Rattle.wsm_machine.proofs.CountedSessions.{sessions_by_event}
-use Rattle.wsm_turns.specs.declared.clocks.Clocks.{Clocks}
-use Rattle.wsm_turns.specs.Turns.{Kept, Said, kept, setting_of}
+use Rattle.wsm_turns.specs.Turns.{kept, setting_of}
 use Rattle.wsm_head.specs.StandsFor.{records_left}
-use Rattle.wsm_head.specs.Behind.{KeptFor, lines_behind, lines_written, needed_of}
+use Rattle.wsm_head.specs.Behind.{KeptFor, lines_written, needed_of}
 use Rattle.wsm_head.proofs.NeededStand.{has_room, needed_stand}
 use Rattle.wsm_head.proofs.Turning.{lines_alike, lines_all}
 use Rattle.wsm_head.proofs.laws.writes_on.Goals as goal
