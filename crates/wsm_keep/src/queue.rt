@@ -113,7 +113,7 @@ impl Queue {
     {
         let Queue { texts, mut items } = self;
         let alloc = *items.allocator();
-        let mut kept = Vec::with_capacity(alloc, items.len())?;
+        let mut kept = Vec::new(alloc);
         let mut told = Vec::new(alloc);
         while let Some(item) = items.pop() {
             if stays(firsts, &told, item.what) {
