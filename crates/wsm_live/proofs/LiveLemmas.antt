@@ -1,48 +1,14 @@
 -- What a journal says as it is opened.
-use Rattle.std.proofs.Common.{◌≡◌, ◌∙◌, ◌+◌, ◌-◌, ◌<◌, ℕ, List, [], ◌∷◌, ◌++◌, Option, Some, None, drop, length, map, option_map, slice_get, refl, sym, ap, subst, arith}
-use Rattle.wsm_journal.specs.Text.{Entry, last_number}
-use Rattle.wsm_journal.specs.Reading.{read_journal}
+use Rattle.std.proofs.Common.{◌≡◌, ◌∙◌, ◌-◌, ℕ, List, [], ◌∷◌, Option, Some, None, drop, length, map, slice_get, true, refl, sym, ap, subst, arith}
+use Rattle.wsm_journal.specs.Text.{Entry}
 use Rattle.wsm_journal.specs.Seen.{entry_seen}
-use Rattle.wsm_journal.specs.Folder.{Folder, bytes_of}
-use Rattle.wsm_journal.specs.Calls.{IfKnown}
-use Rattle.wsm_journal.specs.Kept.{IsSettledAt, entry_behind, records_in}
 use Rattle.wsm_journal.specs.declared.records.Record.{Record}
 use Rattle.wsm_live.specs.declared.run.LiveRun.{LiveRun}
 use Rattle.wsm_live.specs.declared.live.Live.{Live}
-use Rattle.wsm_live.specs.Head.{name_in}
+use Rattle.wsm_live.specs.Head.{is_headed, name_in}
 use Rattle.wsm_live.specs.Told.{Turn}
-use Rattle.wsm_live.specs.Live.{IsBegun, Opened, Took, begun, chunk_lines, last_position}
+use Rattle.wsm_live.specs.Live.{IsBegun, Opened, Took, chunk_lines, last_position}
 use Rattle.wsm_live.proofs.RunLemmas.{Took-none}
-
--- a journal that was read without a record is begun as its first one
-begun_at : (last : Option ℕ) (head begin : List ℕ) (es was : List Entry) (new : Option (List Entry)) → was ≡ es → last ≡ last_number None was
-    → IsBegun es last head begin (Some was) new → new ≡ Some (begun head begin es)
-begun_at last head begin [] was new is at more =
-    more ∙ ap (λ (l : List Entry). Some (l ++ entry_behind last 0 head begin ∷ [])) is
-    ∙ ap (λ (o : Option ℕ). Some (entry_behind o 0 head begin ∷ [])) (at ∙ ap (last_number None) is)
-begun_at last head begin (e ∷ es) was new is at more = more ∙ ap (λ (l : List Entry). Some l) is
-
-none_begun : (last : Option ℕ) (head begin : List ℕ) (es : List Entry) (new : Option (List Entry)) → IsBegun es last head begin None new → new ≡ None
-none_begun last head begin [] new more = more
-none_begun last head begin (e ∷ es) new more = more
-
-pub known_begun : (was now : Option Folder) (last : Option ℕ) (head begin bytes : List ℕ) (new : Option (List Entry))
-    → option_map records_in now ≡ option_map records_in was → IfKnown now (IsSettledAt last) → IfKnown was (λ d. bytes ≡ bytes_of d.journal)
-    → IsBegun (read_journal bytes).entries last head begin (option_map records_in now) new → new ≡ option_map (λ d. begun head begin (records_in d)) was
-known_begun None None last head begin bytes new same settled read more = none_begun last head begin (read_journal bytes).entries new more
-known_begun None (Some d) last head begin bytes new same settled read more = cc
-known_begun (Some d) None last head begin bytes new same settled read more = cc
-known_begun (Some d) (Some e) last head begin bytes new same settled read more =
-    let is : records_in e ≡ records_in d = cc in
-    let es : (read_journal bytes).entries ≡ records_in d = ap (λ (b : List ℕ). (read_journal b).entries) read in
-    begun_at last head begin (read_journal bytes).entries (records_in e) new (is ∙ sym es) settled.1 more
-    ∙ ap (λ (l : List Entry). Some (begun head begin l)) es
-
--- what holds of the records that bytes are read as holds of those of the folder that has them
-pub known_read : (was : Option Folder) (bytes : List ℕ) (P : List Entry → Type 0) → IfKnown was (λ d. bytes ≡ bytes_of d.journal)
-    → P (read_journal bytes).entries → IfKnown was (λ d. P (records_in d))
-known_read None bytes P read is = tt
-known_read (Some d) bytes P read is = subst (λ (b : List ℕ). P (read_journal b).entries) read is
 
 -- ---- where the last record stands
 
@@ -78,14 +44,15 @@ place_none first (r ∷ rs) is =
 -- ---- what was opened
 
 pub opened_on : {F T : Type 0} {stands : T → Turn → List (List ℕ) → Type 0} {head begin : List ℕ} {run : LiveRun T} {live : Live F T} {from to : List ℕ} (rs chunks : List Record) (x : Record)
-    → Some x ≡ slice_get rs 0 → chunks ≡ drop 1 rs → Took stands (chunk_lines run.longest (map entry_seen chunks)) run live.run from to → live.run.longest ≡ run.longest
+    → Some x ≡ slice_get rs 0 → chunks ≡ drop 1 rs → is_headed head x.rows.now ≡ true → Took stands (chunk_lines run.longest (map entry_seen chunks)) run live.run from to → live.run.longest ≡ run.longest
     → live.name.items ≡ name_in x.rows.now → live.position.items ≡ last_position x.position.now (map entry_seen chunks) → Opened stands head begin (map entry_seen rs) run live from to
-opened_on [] chunks x is at took longest name position = cc
-opened_on {stands = stands} {run = run} {live = live} {from = from} {to = to} (r ∷ rs) chunks x is at took longest name position =
+opened_on [] chunks x is at headed took longest name position = cc
+opened_on {stands = stands} {head = head} {run = run} {live = live} {from = from} {to = to} (r ∷ rs) chunks x is at headed took longest name position =
     let first : x ≡ r = cc in
     record {
       took = subst (λ (l : List Record). Took stands (chunk_lines run.longest (map entry_seen l)) run live.run from to) at took;
       longest = longest;
+      headed = sym (ap (λ (y : Record). is_headed head y.rows.now) first) ∙ headed;
       name = name ∙ ap (λ (y : Record). name_in y.rows.now) first;
       position = position ∙ ap (λ (l : List Record). last_position x.position.now (map entry_seen l)) at ∙ ap (λ (y : Record). last_position y.position.now (map entry_seen rs)) first;
     }
@@ -95,6 +62,7 @@ pub opened_begun : {F T : Type 0} {stands : T → Turn → List (List ℕ) → T
 opened_begun {stands = stands} {run = run} {live = live} {text = text} same name position = record {
   took = subst (λ r. Took stands [] run r text text) (sym same) (Took-none stands run text);
   longest = ap (λ r. r.longest) same;
+  headed = tt;
   name = name;
   position = position;
 }

@@ -1,12 +1,12 @@
 -- A run over lines meets what the protocol asks, and a journal's records are the protocol's.
-use Rattle.std.proofs.Common.{◌≡◌, ◌∙◌, ◌+◌, ◌&&◌, ℕ, List, [], ◌∷◌, ◌++◌, drop, length, map, Bool, true, false, nat_eq, eq-eqb, refl, sym, ap, ap₂, append_assoc, append-nil}
+use Rattle.std.proofs.Common.{◌≡◌, ◌∙◌, ◌+◌, ◌&&◌, ℕ, List, [], ◌∷◌, ◌++◌, drop, length, true, false, nat_eq, eq-eqb, refl, sym, ap, ap₂, append_assoc, append-nil}
 use Rattle.std.proofs.lemmas.Bool.{and_parts, eqb-true, false≢true}
 use Rattle.std.proofs.lemmas.List.{map-append}
 use Rattle.std.proofs.Math.Seq.{drop-append_seam}
 use Rattle.wsm_sums.specs.Crc.{sum_behind}
 use Rattle.wsm_numbered.specs.Numbered.{numbered, numbered_line}
 use Rattle.wsm_journal.specs.Text.{Entry}
-use Rattle.wsm_protocol.specs.Runs.{IsRun, Run}
+use Rattle.wsm_protocol.specs.Runs.{IsRun}
 use Rattle.wsm_protocol.specs.World as world
 use Rattle.wsm_protocol.specs.World.{Journal, all_rows, lines_of_chunk, with_chunk}
 use Rattle.wsm_live.specs.Kept.{read_lines}

@@ -1,12 +1,12 @@
 -- Rows of lines, one behind another.
-use Rattle.std.proofs.Common.{◌≡◌, ◌∙◌, ◌≤◌, ◌<◌, ◌+◌, ◌-◌, ◌==◌, ℕ, zero, suc, List, [], ◌∷◌, ◌++◌, take, drop, length, map, Bool, true, false, not, cond, Option, Some, None, MatchOption, inl, inr, refl, sym, ap, arith, append_assoc, append-nil}
+use Rattle.std.proofs.Common.{◌≡◌, ◌∙◌, ◌≤◌, ◌<◌, ◌+◌, ◌-◌, ◌==◌, ℕ, zero, suc, List, [], ◌∷◌, ◌++◌, take, drop, length, map, true, false, cond, Option, Some, None, MatchOption, inl, inr, refl, sym, ap, arith, append_assoc, append-nil}
 use Rattle.std.proofs.lemmas.Bool.{cases_Bool}
-use Rattle.std.proofs.lemmas.List.{take_all, map-append}
+use Rattle.std.proofs.lemmas.List.{take_all}
 use Rattle.memchr.specs.Find.{IsFirstByte, is_byte}
 use Rattle.wsm_log.specs.LinesOf.{HasNoFeed, kept}
 use Rattle.wsm_follow.specs.Ended.{ended_from, ended_lines, kept_lines}
 use Rattle.wsm_follow.proofs.EndedLemmas.{ended-plain}
-use Rattle.wsm_journal.specs.Text.{are_rows, are_rows_from, is_mark}
+use Rattle.wsm_journal.specs.Text.{are_rows, are_rows_from}
 use Rattle.wsm_live.specs.Kept.{lines_of_rows, read_lines, rows_of}
 
 -- ---- where a line ends

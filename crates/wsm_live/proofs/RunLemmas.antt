@@ -12,7 +12,7 @@ use Rattle.wsm_journal.specs.Seen.{entry_seen}
 use Rattle.wsm_journal.specs.declared.records.Record.{Record}
 use Rattle.wsm_live.specs.declared.run.LiveRun.{LiveRun}
 use Rattle.wsm_live.specs.Kept.{read_lines}
-use Rattle.wsm_live.specs.Told.{Turn, handed_out, told, told_for, with_lines}
+use Rattle.wsm_live.specs.Told.{Turn, handed_out, told, with_lines}
 use Rattle.wsm_live.specs.Live.{IsBehind, Takes, Took, chunk_lines}
 use Rattle.wsm_live.proofs.ToldLemmas.{handed-append, with-append}
 

@@ -1,5 +1,5 @@
 -- What is handed out for lines, in pieces.
-use Rattle.std.proofs.Common.{◌≡◌, ◌∙◌, ◌+◌, ℕ, List, [], ◌∷◌, ◌++◌, length, refl, sym, ap, subst, arith, append_assoc, append-nil}
+use Rattle.std.proofs.Common.{◌≡◌, ◌∙◌, ◌+◌, ℕ, List, [], ◌∷◌, ◌++◌, length, refl, sym, ap, append_assoc, append-nil}
 use Rattle.std.proofs.Math.ListN.{length-append}
 use Rattle.wsm_numbered.specs.Numbered.{lines_in, numbered, sum_over}
 use Rattle.wsm_numbered.proofs.Lines.{numbered_append, sum_over-append}

@@ -1,6 +1,6 @@
 -- The row that a journal's head begins with: `live,1,NAME,SUM`, a line feed. NAME are 16 bytes that were drawn as the journal was begun,
 -- and SUM is of all that says what is written for lines.
-use Rattle.std.specs.Prelude.{ℕ, ◌&&◌, ◌==◌, nat_eq, List, [], ◌∷◌, ◌++◌, Bool, drop, length, take, codes}
+use Rattle.std.specs.Prelude.{ℕ, ◌&&◌, nat_eq, List, [], ◌∷◌, ◌++◌, Bool, drop, take, codes}
 use Rattle.std.specs.Fmt.{decimal}
 use Rattle.std.specs.List.{starts_with}
 

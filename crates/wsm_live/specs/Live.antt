@@ -1,5 +1,5 @@
 -- What a run over a growing log has come to, and what its journal says.
-use Rattle.std.specs.Prelude.{◌≡◌, ◌⊎◌, ℕ, List, [], ◌∷◌, ◌++◌, length, Option, Some, None, option_map, false}
+use Rattle.std.specs.Prelude.{◌≡◌, ℕ, List, [], ◌∷◌, ◌++◌, length, Option, option_map, true}
 use Rattle.wsm_numbered.specs.Numbered.{sum_over}
 use Rattle.wsm_numbered.specs.Seen.{count_of, sum_in}
 use Rattle.wsm_follow.specs.Ended.{ended_lines}
@@ -10,7 +10,7 @@ use Rattle.wsm_journal.specs.declared.journal_file.JournalError.TheVariants as j
 use Rattle.wsm_journal.specs.Kept.{entry_behind}
 use Rattle.wsm_live.specs.Kept.{read_lines, rows_of}
 use Rattle.wsm_live.specs.Told.{Turn, handed_out, told, with_lines}
-use Rattle.wsm_live.specs.Head.{name_in}
+use Rattle.wsm_live.specs.Head.{is_headed, name_in}
 use Rattle.wsm_live.specs.declared.run.LiveRun.{LiveRun}
 use Rattle.wsm_live.specs.declared.live.Live.{Live}
 use Rattle.wsm_live.specs.declared.live.LiveError.{LiveError}
@@ -40,6 +40,11 @@ begun head position (e ∷ es) = e ∷ es
 abbrev pub last_position : List ℕ → List Entry → List ℕ
 last_position position [] = position
 last_position position (e ∷ es) = last_position e.position es
+
+-- its first record, if it has one, begins as a head with this row, whatever name that has
+abbrev pub IsHeaded : List ℕ → List Entry → Type 0
+IsHeaded head [] = Unit {0}
+IsHeaded head (e ∷ es) = is_headed head e.rows ≡ true
 
 -- the name that its head has
 abbrev pub name_of : List Entry → List ℕ
@@ -99,9 +104,10 @@ abbrev pub IsBegun : List Entry → Option ℕ → List ℕ → List ℕ → Opt
 IsBegun [] last head position old new = new ≡ option_map (λ es. es ++ entry_behind last 0 head position ∷ []) old
 IsBegun (e ∷ es) last head position old new = new ≡ old
 
--- all lines behind the head of a journal that was read as these records were taken, and its name and its position are known
+-- all lines behind the head of a journal that was read as these records were taken; it is of this run, and its name and position are known
 pub record Opened {F T : Type 0} (stands : T → Turn → List (List ℕ) → Type 0) (head begin : List ℕ) (es : List Entry) (run : LiveRun T) (live : Live F T) (from to : List ℕ) : Type 0 where
   pub took : Took stands (lines_behind run.longest es) run live.run from to
   pub longest : live.run.longest ≡ run.longest
+  pub headed : IsHeaded head es
   pub name : live.name.items ≡ name_of (begun head begin es)
   pub position : live.position.items ≡ last_position [] (begun head begin es)

@@ -1,5 +1,5 @@
 -- What is handed out, computed: of a run that repeats each line, and says how many came before it.
-use Rattle.std.specs.Prelude.{◌≡◌, ℕ, List, [], ◌∷◌, ◌++◌, length, codes, refl}
+use Rattle.std.specs.Prelude.{◌≡◌, [], ◌∷◌, ◌++◌, length, codes, refl}
 use Rattle.std.specs.Fmt.{decimal, digits}
 use Rattle.wsm_sums.specs.Crc.{bit_step, byte_step, rest_after, sum_behind}
 use Rattle.wsm_live.specs.Told.{Turn, handed_out, told, told_for, with_lines}

@@ -16,3 +16,5 @@ pub mod laws;
 mod live;
 mod rows;
 mod run;
+#[cfg(test)]
+mod tests;

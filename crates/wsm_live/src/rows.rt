@@ -16,7 +16,7 @@ pub fn line_end(text: &[u8]) -> Option<usize>
     memchr(b'\n', text)
 }
 
-/// Adds the row of a line.
+// Adds the row of a line.
 fn add_row(line: &[u8], rows: &mut Vec<u8>) -> Result<(), AllocError>
     ensures { OnOk result (rows.new.items ≡ rows.old.items ++ rows_of (line.now ∷ [])) }
 {

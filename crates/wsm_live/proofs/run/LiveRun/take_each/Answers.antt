@@ -1,4 +1,4 @@
-use Rattle.std.proofs.Common.{◌≡◌, ◌∙◌, ◌<◌, ap, length, map, refl, arith}
+use Rattle.std.proofs.Common.{◌∙◌, ap, length, map, refl, arith}
 use Rattle.std.proofs.lemmas.List.{length-drop}
 use Rattle.std.proofs.Math.Seq.{take-length}
 use Rattle.wsm_journal.specs.Seen.{entry_seen}
