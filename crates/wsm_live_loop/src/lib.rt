@@ -8,13 +8,12 @@
 //! that it puts together have their clauses: `wsm_follow`, `wsm_journal` and `wsm_live`.
 #![tactic(auto)]
 
-pub use follow::follow;
 pub use settings::Settings;
 pub use stop::{LiveStop, SinkFault};
+pub use turns::follow;
 
 mod begin;
 mod counts;
-mod follow;
 mod health;
 mod numbered;
 mod settings;
@@ -22,3 +21,4 @@ mod sinks;
 mod stop;
 #[cfg(test)]
 mod tests;
+mod turns;
