@@ -1,0 +1,2 @@
+pub mod NameRows
+pub mod RunRows
