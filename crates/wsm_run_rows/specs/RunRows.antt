@@ -1,6 +1,6 @@
 -- Whole runs, computed by the definitions: which query a text says, and the bytes that it writes for the bytes of its rows.
 -- What is written was computed by `trials/reference.py`, of these texts.
-use Rattle.std.specs.Prelude.{◌≡◌, refl, ℕ, List, [], ◌∷◌, ◌++◌, pos, negsuc, Some, None, codes, false}
+use Rattle.std.specs.Prelude.{◌≡◌, refl, ℕ, List, [], ◌∷◌, ◌++◌, pos, negsuc, Some, None, codes, false, true}
 use Rattle.std.specs.Fmt.{digits}
 use Rattle.csv.specs.Machine.{next_record}
 use Rattle.csv.specs.Reading.{default_config, records_from, strip_bom}
@@ -104,6 +104,7 @@ bill_rows =
     ++ codes "w,x,80\n"
     ++ codes "w,x,70\n"
     ++ codes "w,y,90\n"
+    ++ codes "r,a,65,8,true,red\n"
     ++ codes "r,a,-1,8,true,red\n"
     ++ codes "r,a,5,8,yes,red\n"
     ++ codes "r,a,5,8x,true,red\n"
@@ -127,15 +128,15 @@ bill_lines =
     ++ codes "refused,17,RecordLimit\n"
     ++ codes "refused,18,RecordLimit\n"
     ++ codes "refused,20,NotRising\n"
-    ++ codes "refused,22,TimeRange\n"
-    ++ codes "refused,23,BadName\n"
-    ++ codes "refused,24,BadNumber\n"
-    ++ codes "refused,25,CellCount\n"
-    ++ codes "refused,26,BadTag\n"
-    ++ codes "refused,27,UnknownSource\n"
-    ++ codes "refused,28,NotRising\n"
+    ++ codes "refused,23,TimeRange\n"
+    ++ codes "refused,24,BadName\n"
+    ++ codes "refused,25,BadNumber\n"
+    ++ codes "refused,26,CellCount\n"
+    ++ codes "refused,27,BadTag\n"
+    ++ codes "refused,28,UnknownSource\n"
+    ++ codes "refused,29,NotRising\n"
     ++ codes "pane,on_time,z,30,90,z,3,205,true,true,blue\n"
-    ++ codes "end,29,7,1,15,6\n"
+    ++ codes "end,30,7,2,15,6\n"
 
 bill_written : written bill bill_rows ≡ bill_lines
 unfolding records_from next_record strip_bom input_text digits
@@ -242,3 +243,50 @@ whole_bags_lines =
 whole_bags_written : written (visits Rstream) visit_rows ≡ whole_bags_lines
 unfolding records_from next_record strip_bom input_text digits
 whole_bags_written = refl
+
+-- ---- a window that is dropped while others of its times are live, and a test that isn't evaluated at 0
+
+abbrev visitor_text : List ℕ
+visitor_text =
+    codes "KEYS a;\n"
+    ++ codes "FIELD n INT 0..9;\n"
+    ++ codes "START 0; SKEW 100; LATENESS 10 FROM WINDOW; RECORDS 10;\n"
+    ++ codes "SELECT COUNT(*)\n"
+    ++ codes "WHERE NOT (n <> 0 AND 10 / n > 20)\n"
+    ++ codes "WINDOW SLIDING 60 EVERY 25 ACCUMULATING LATE EVERY 1\n"
+    ++ codes "EMIT PANES;\n"
+
+abbrev visitors : Query
+visitors = record {
+  keys = codes "a" ∷ [];
+  fields = record { name = codes "n"; type = Int (pos 0) (pos 9) } ∷ [];
+  sources = [];
+  clock = record { start = pos 0; skew = pos 100; lateness = pos 10; from_window = true; records = pos 10 };
+  budget = None;
+  columns = Count ∷ [];
+  condition = Some (Not (Brackets (And (Binary (Compare Ne) n (number 0)) (Binary (Compare Gt) (Binary (Compute Div) (number 10) n) (number 20)))));
+  having = None;
+  output = record { shape = Sliding (pos 60) (pos 25); mode = Accumulating; early = None; late = Some (pos 1); form = Panes };
+}
+
+visitors_said : IsTextOf visitor_text visitors
+unfolding plain tokens tokens_from first_of sign_of is_reserved
+visitors_said = record { tokens = refl; told = refl }
+
+abbrev visitor_rows : List ℕ
+visitor_rows =
+    codes "r,a,5,0\n"
+    ++ codes "w,45\n"
+    ++ codes "r,a,6,1\n"
+    ++ codes "w,70\n"
+
+abbrev visitor_lines : List ℕ
+visitor_lines =
+    codes "pane,on_time,a,-50,10,1\n"
+    ++ codes "pane,on_time,a,-25,35,1\n"
+    ++ codes "pane,on_time,a,0,60,2\n"
+    ++ codes "end,4,2,0,0,3\n"
+
+visitors_written : written visitors visitor_rows ≡ visitor_lines
+unfolding records_from next_record strip_bom input_text digits
+visitors_written = refl
