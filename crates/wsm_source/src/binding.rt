@@ -1,7 +1,8 @@
 //! A source, bound to a query.
 
-ghost use Rattle.std.specs.Prelude.{◌≡◌, ◌⊎◌, ◌+◌, ◌<◌, ◌^◌, [], ◌++◌, ◌∷◌, IfOk, IfErr, OnOk, Ok, Err, map, option_map};
+ghost use Rattle.std.specs.Prelude.{◌≡◌, ◌⊎◌, ◌+◌, ◌<◌, ◌^◌, [], ◌++◌, ◌∷◌, IfOk, IfErr, OnOk, Ok, Err, codes, map, option_map};
 ghost use Rattle.wsm_record.specs.Fields.{field_seen};
+ghost use Rattle.wsm_source.specs.Places.{place_if};
 ghost use Rattle.wsm_source.specs.Binding.{place_said, identifier_column, clock_column, clock_said, columns_of, format_with, with_column, bound};
 
 use crate::field_binding::{described_field, fields_of, require_declared};
@@ -12,7 +13,7 @@ use wsm_description::{
     ClockDescription, Description, FieldDescription, Format, NamedClocks, Refusal, SourceFault,
     refuse,
 };
-use wsm_lines::{CsvForm, Fields, Source, Words};
+use wsm_lines::{CsvForm, Fields, Place, Source, Words};
 use wsm_record::{DeclaredField, Schema};
 use wsm_values::{Word, Zone};
 
@@ -54,7 +55,7 @@ fn clock_column(identifier: &Option<Word>, declared: &[DeclaredField]) -> usize
     }
 }
 
-// Where a record has its identifier, if that is said.
+// The place of the identifier, if it is said.
 fn identifier_said(identifier: &Option<Word>) -> Option<&str>
     ensures { option_map (λ s. s.now) result ≡ identifier.now }
 {
@@ -64,7 +65,7 @@ fn identifier_said(identifier: &Option<Word>) -> Option<&str>
     }
 }
 
-// Where lines name the clocks of their records, if that is said.
+// The place of the names of clocks, if it is said.
 fn clock_said(clock: &Option<ClockDescription>) -> Option<&str>
     ensures { option_map (λ s. s.now) result ≡ clock_said clock.now }
 {
@@ -82,6 +83,34 @@ fn place_named(named: &Option<NamedClocks>) -> Option<&str>
         Some(named) => Some(named.at.as_str()),
         None => None,
     }
+}
+
+// Where a record has its identifier, if that is said.
+fn identifier_place(
+    alloc: Global,
+    description: &Description,
+    declared: &[DeclaredField],
+) -> Result<Option<Place>, Refusal>
+    ensures ok { IfOk result (λ place. place_if description.now.format (identifier_column (map field_seen declared.now)) (codes "identifier") description.now.identifier ≡ Ok place) }
+    ensures fault { IfErr result (λ r. (r ≡ Refusal.Memory) ⊎ (place_if description.now.format (identifier_column (map field_seen declared.now)) (codes "identifier") description.now.identifier ≡ Err r)) }
+{
+    let column = identifier_column(declared);
+    let at = identifier_said(&description.identifier);
+    place_if(alloc, description.format, column, "identifier", at)
+}
+
+// Where lines name the clocks of their records, if that is said.
+fn clock_place(
+    alloc: Global,
+    description: &Description,
+    declared: &[DeclaredField],
+) -> Result<Option<Place>, Refusal>
+    ensures ok { IfOk result (λ place. place_if description.now.format (clock_column description.now.identifier (map field_seen declared.now)) (codes "clock") (clock_said description.now.clock) ≡ Ok place) }
+    ensures fault { IfErr result (λ r. (r ≡ Refusal.Memory) ⊎ (place_if description.now.format (clock_column description.now.identifier (map field_seen declared.now)) (codes "clock") (clock_said description.now.clock) ≡ Err r)) }
+{
+    let column = clock_column(&description.identifier, declared);
+    let at = clock_said(&description.clock);
+    place_if(alloc, description.format, column, "clock", at)
 }
 
 // Adds a column behind those that a CSV is asked for, if its place is said.
@@ -159,12 +188,8 @@ pub fn bind(
     let key = key_form(alloc, format, schema, names, &description.key)?;
     let time = time_at(alloc, format, zone, &description.time)?;
     let fields = fields_of(alloc, format, said, declared)?;
-    let column = identifier_column(declared);
-    let at = identifier_said(&description.identifier);
-    let identifier = place_if(alloc, format, column, "identifier", at)?;
-    let column = clock_column(&description.identifier, declared);
-    let at = clock_said(&description.clock);
-    let clock = place_if(alloc, format, column, "clock", at)?;
+    let identifier = identifier_place(alloc, description, declared)?;
+    let clock = clock_place(alloc, description, declared)?;
     let format = format_with(alloc, description, declared)?;
     Ok(Source {
         format,
