@@ -6,3 +6,6 @@ pub mod Sayable
 pub mod BoundSources
 pub mod Delivering
 pub mod ClockedSources
+mod LineRows
+mod GoingRows
+mod FedRows

@@ -35,7 +35,7 @@ abbrev values_cells : List DeclaredField → List Value → List (List ℕ)
 values_cells (f ∷ fs) (v ∷ vs) = value_text f.type v ∷ values_cells fs vs
 values_cells _ _ = []
 
-abbrev cells_of : Declared → Said → List (List ℕ)
+abbrev pub cells_of : Declared → Said → List (List ℕ)
 cells_of d (Ok (Record key time values)) = codes "r" ∷ key_text d key ∷ signed_decimal time ∷ values_cells d.fields values
 cells_of d (Ok (Watermark source time)) = []
 cells_of d (Err why) = codes "unread" ∷ fault_word why ∷ []
@@ -79,7 +79,7 @@ value_plain (Enum names) (values.Bool b) t h = cc h
 value_plain (Enum names) (values.Enum i) t h = name_at_plain names i (names_spelt [] names (enum_listed names t))
 
 -- a name is read as its number
-name_read : (names : List (List ℕ)) (i : ℕ) → are_names_after [] names ≡ true → i < length names → place_of (slice_index_or names i []) names ≡ Some i
+pub name_read : (names : List (List ℕ)) (i : ℕ) → are_names_after [] names ≡ true → i < length names → place_of (slice_index_or names i []) names ≡ Some i
 name_read names i h few = position-distinct names i (slice_index_or names i []) (no_repeats [] names h) (has names i few)
   where
     has : (xs : List (List ℕ)) (k : ℕ) → k < length xs → slice_get xs k ≡ Some (slice_index_or xs k [])
@@ -169,7 +169,7 @@ word_plain faults.BadIdentifier = refl
 word_plain faults.NotRow = refl
 
 -- cells in their row: the first two, and those behind them
-row_of_cells : (a b : List ℕ) (cells : List (List ℕ)) → IsPlain a → IsPlain b → AllByRecursion IsPlain cells → csv_row default_writer (a ∷ b ∷ cells) ≡ a ++ 44 ∷ b ++ behind_commas cells ++ 10 ∷ []
+pub row_of_cells : (a b : List ℕ) (cells : List (List ℕ)) → IsPlain a → IsPlain b → AllByRecursion IsPlain cells → csv_row default_writer (a ∷ b ∷ cells) ≡ a ++ 44 ∷ b ++ behind_commas cells ++ 10 ∷ []
 unfolding fields_text is_blank
 row_of_cells a b cells p q r = rw (field_plain a p, field_plain b q, fields_plain cells r) (simp append_assoc)
 
@@ -180,7 +180,7 @@ unread : (word : List ℕ) → codes "unread," ++ word ++ 10 ∷ [] ≡ codes "u
 unread word = simp append_assoc
 
 -- the row of a line, as it is written
-row_is : (d : Declared) (x : Said) → is_schema d ≡ true → IsSayable d x → row_text d x ≡ csv_row default_writer (cells_of d x)
+pub row_is : (d : Declared) (x : Said) → is_schema d ≡ true → IsSayable d x → row_text d x ≡ csv_row default_writer (cells_of d x)
 row_is d (Ok (Record key time values)) h (is_key, is_time, are) =
     let of = values_are [] d.fields values (fields_listed d h) are in
     ap (λ (t : List ℕ). codes "r," ++ key_text d key ++ 44 ∷ signed_decimal time ++ t ++ 10 ∷ []) (sym of.text)
@@ -190,7 +190,7 @@ row_is d (Ok (Watermark source time)) h is = absurd is
 row_is d (Err why) h is = unread (fault_word why) ∙ sym (row_of_cells (codes "unread") (fault_word why) [] refl (word_plain why) tt)
 
 -- and as it is read
-event_is : (d : Declared) (x : Said) → is_schema d ≡ true → IsSayable d x → event_of_cells d (cells_of d x) ≡ row_said x
+pub event_is : (d : Declared) (x : Said) → is_schema d ≡ true → IsSayable d x → event_of_cells d (cells_of d x) ≡ row_said x
 event_is d (Ok (Record key time values)) h (is_key, is_time, are) =
     let of = values_are [] d.fields values (fields_listed d h) are in
     let same : (length (values_cells d.fields values) == length d.fields) ≡ true = let n = of.count in grind (arith, nat_tests, n) in
@@ -246,7 +246,7 @@ rows_back ((a ∷ b ∷ cells) ∷ rows) h = (
   rows_back rows h.1,
 )
 
-no_more : next_record default_config st.StartRecord [] [] [] ≡ None
+pub no_more : next_record default_config st.StartRecord [] [] [] ≡ None
 unfolding next_record
 no_more = refl
 

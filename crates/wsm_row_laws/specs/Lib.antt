@@ -1,3 +1,4 @@
 pub mod SaidRows
 pub mod SameRuns
 pub mod Delivered
+pub mod Fed

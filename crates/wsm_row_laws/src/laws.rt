@@ -1,6 +1,6 @@
 //! What runs over logs and over rows come to.
 
-ghost use Rattle.std.specs.Prelude.{◌≡◌, ◌+◌, ◌<◌, ◌^◌, ℕ, List, None, Some, IfOk, IsTrue, length, reverse, unsigned_abs};
+ghost use Rattle.std.specs.Prelude.{◌≡◌, ◌+◌, ◌<◌, ◌^◌, ℕ, Bool, List, Option, None, Some, IfOk, IsTrue, length, reverse, unsigned_abs};
 ghost use Rattle.wsm_record.specs.Schema.{Declared, is_schema};
 ghost use Rattle.wsm_lines.specs.declared.source.Source.{Source};
 ghost use Rattle.wsm_values.specs.declared.zone.Zone.{Zone};
@@ -14,6 +14,8 @@ ghost use Rattle.wsm_intake.specs.Intake.{Said as SaidWith, said as said_with};
 ghost use Rattle.wsm_row_laws.specs.Delivered.{AreSent, PassesDeliveries};
 ghost use Rattle.wsm_row_laws.specs.SameRuns.{AreWithout, EndsAlike, WritesAlike};
 ghost use Rattle.wsm_row_laws.specs.SaidRows.{AreReadBack, AreSayable, said};
+ghost use Rattle.wsm_turns.specs.Turns.{Setting};
+ghost use Rattle.wsm_row_laws.specs.Fed.{AreFed, AreLines};
 
 use wsm_doubles::laws::passes_by_number;
 use wsm_lines::LineFault;
@@ -58,3 +60,10 @@ pub fn counts_deliveries()
 {
     feeds_deliveries::<LineFault>();
 }
+
+/// What is written for lines of rows, with watermarks among them, is read by a run over rows as the events of the lines' turns, in
+/// their order, with a row of no event for each line that is none, unless it has no byte. So a run behind `wsm watermarks` is fed
+/// what the definition of its turns says (`wsm_row_watermarks`).
+pub fn rows_are_fed()
+    ensures { (w : Setting) (once : Option ℕ) (last : Bool) (lines : List (List ℕ)) → IsTrue (is_schema w.declared) → AreLines lines → (rows : List (List (List ℕ))) × AreFed w once last lines rows }
+{}
