@@ -21,14 +21,11 @@ It ends with status 2 by its words, 6 where QUERY or KEYS can't be read, and as 
 from __future__ import annotations
 
 import contextlib
-import ctypes
 import os
 import resource
 import signal
 import subprocess
 import sys
-import tempfile
-from concurrent.futures import ThreadPoolExecutor
 from pathlib import Path
 from threading import Thread
 from typing import TYPE_CHECKING, Any, Dict, List, Optional, Sequence
@@ -47,6 +44,8 @@ WITH_PARENT = 1     # the call of prctl by which a process gets a signal where i
 
 def parts_of(asked: Namespace, folder: Path) -> List[Path]:
     """The query of each part, in a file."""
+    from concurrent.futures import ThreadPoolExecutor
+
     parted, sample = Parted(asked.program, asked.query, asked.keys), folder / "sample.wsm"
 
     def refusal(parts: int, number: int) -> Optional[Ended]:
@@ -89,7 +88,9 @@ class Processes:
         self.pipes: List[int] = []
         self.parent, self.rest = os.getpid(), b""
         self.fault: Optional[OSError] = None
-        self.prctl = ctypes.CDLL(None).prctl
+        from ctypes import CDLL
+
+        self.prctl = CDLL(None).prctl
         for number, query in enumerate(queries):
             self.begin_part(number, query)
         rows, self.dealt = os.pipe()
@@ -187,11 +188,13 @@ def words() -> Namespace:
 
 
 def main() -> int:
+    from tempfile import TemporaryDirectory
+
     asked = words()
     Signals.begin()
     most = resource.getrlimit(resource.RLIMIT_NOFILE)[1]
     resource.setrlimit(resource.RLIMIT_NOFILE, (most, most))    # each part takes four
-    with tempfile.TemporaryDirectory(prefix="many-") as folder:
+    with TemporaryDirectory(prefix="many-") as folder:
         processes = Processes(asked, parts_of(asked, Path(folder)), Path(folder))
         try:
             Signals.is_waiting = True

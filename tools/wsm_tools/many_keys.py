@@ -17,7 +17,6 @@ the parts. docs/SCALING.md says what is written and in which order, and what is 
 """
 from __future__ import annotations
 
-import logging
 import mmap
 import os
 import pickle
@@ -26,13 +25,10 @@ import resource
 import shutil
 import subprocess
 import sys
-import tempfile
-import uuid
 import warnings
 from array import array
 from bisect import bisect_left
 from collections import Counter, defaultdict
-from concurrent.futures import ThreadPoolExecutor
 from contextlib import ExitStack, contextmanager, suppress
 from importlib import import_module
 from itertools import chain, pairwise, takewhile, zip_longest
@@ -129,7 +125,7 @@ class Ran(NamedTuple):
 # ---- tasks. Each may be run again at any time: a file has its name once it's whole, and is the same each time.
 
 def attempt_of(path: str) -> str:
-    return f"{path}.{uuid.uuid4().hex}."
+    return f"{path}.{os.urandom(16).hex()}."
 
 
 @contextmanager
@@ -451,7 +447,7 @@ def client_of(asked: Namespace, room: Path) -> Iterator[Any]:
         # All ports are on the loopback: whoever reaches one may run anything.
         pages = {"dashboard_address": "127.0.0.1:0", "worker_dashboard_address": "127.0.0.1:0"}
         # Its workers are threads: what takes time are the programs that they run, each a process of its own.
-        settings = {"threads_per_worker": 1, "processes": False, "local_directory": room, "silence_logs": logging.ERROR, **pages}
+        settings = {"threads_per_worker": 1, "processes": False, "local_directory": room, "silence_logs": import_module("logging").ERROR, **pages}
         # Else each worker looks a hundred times a second at what its thread does.
         dask.config.set({"distributed.worker.profile.enabled": False})
         dask.config.set({"distributed.comm.timeouts.connect": PATIENCE, "distributed.comm.timeouts.tcp": PATIENCE})
@@ -605,6 +601,8 @@ class Judge:
 
 
 def answer(asked: Namespace, room: Path, out: BinaryIO) -> None:
+    from concurrent.futures import ThreadPoolExecutor
+
     parted = Parted(asked.program, str(asked.query), str(asked.keys))
     judge, one = Judge(parted, room), parted.text_of(parted.nearest(len(parted.names)), 0)
     judge.check(one, room / "sample")
@@ -658,9 +656,11 @@ def words() -> Namespace:
 
 
 def main() -> int:
+    from tempfile import TemporaryDirectory
+
     asked = words()
     try:
-        with tempfile.TemporaryDirectory("", "many-keys-", asked.room, ignore_cleanup_errors=True) as room:
+        with TemporaryDirectory("", "many-keys-", asked.room, ignore_cleanup_errors=True) as room:
             answer(asked, Path(room).absolute(), sys.stdout.buffer)
     except OSError as why:
         raise Ended(str(why)) from None
