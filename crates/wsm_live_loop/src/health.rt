@@ -41,13 +41,20 @@ fn gauge(name: &'static str, help: &'static str, value: u64) -> Metric<'static> 
     }
 }
 
-fn by<'a>(name: &'static str, help: &'static str, words: &'a [Labelled<'a>]) -> Metric<'a> {
-    Metric {
+// The text of a metric that has a value for each word.
+fn text_by<'a>(
+    alloc: Global,
+    name: &'a str,
+    help: &'a str,
+    words: &'a [Labelled<'a>],
+) -> Result<Vec<u8>, AllocError> {
+    let metrics = [Metric {
         name,
         help,
         kind: Kind::Counter,
         values: Values::By("word", words),
-    }
+    }];
+    metrics_text(alloc, &metrics)
 }
 
 // The words with their counts.
@@ -62,6 +69,19 @@ fn labelled(alloc: Global, words: &Words) -> Result<Vec<Labelled<'_>>, AllocErro
     Ok(all)
 }
 
+// Adds the counts of words.
+fn add_words(
+    alloc: Global,
+    name: &'static str,
+    help: &'static str,
+    words: &Words,
+    text: &mut Vec<u8>,
+) -> Result<(), AllocError> {
+    let all = labelled(alloc, words)?;
+    let told = text_by(alloc, name, help, &all)?;
+    text.extend_from_slice(&told)
+}
+
 impl Health {
     /// Its text, with what is counted of the lines that were handed out.
     ///
@@ -69,9 +89,27 @@ impl Health {
     ///
     /// Memory was refused.
     pub fn text(&self, alloc: Global, counts: &Counts) -> Result<Vec<u8>, AllocError> {
-        let kinds = labelled(alloc, &counts.kinds)?;
-        let refused = labelled(alloc, &counts.refused)?;
-        let metrics = [
+        let mut text = metrics_text(alloc, &self.numbers())?;
+        add_words(
+            alloc,
+            "wsm_live_rows_total",
+            "Lines that were handed out, by their first word.",
+            &counts.kinds,
+            &mut text,
+        )?;
+        add_words(
+            alloc,
+            "wsm_live_refused_total",
+            "Rows that were refused, by why.",
+            &counts.refused,
+            &mut text,
+        )?;
+        Ok(text)
+    }
+
+    // Its numbers that have no word.
+    fn numbers(&self) -> [Metric<'static>; 8] {
+        [
             counter(
                 "wsm_live_lines_total",
                 "Lines of the log that were read since the start.",
@@ -112,17 +150,6 @@ impl Health {
                 "Lines that a sink has not told that it has.",
                 self.untaken,
             ),
-            by(
-                "wsm_live_rows_total",
-                "Lines that were handed out, by their first word.",
-                &kinds,
-            ),
-            by(
-                "wsm_live_refused_total",
-                "Rows that were refused, by why.",
-                &refused,
-            ),
-        ];
-        metrics_text(alloc, &metrics)
+        ]
     }
 }
