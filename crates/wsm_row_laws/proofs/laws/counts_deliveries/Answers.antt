@@ -1,3 +1,4 @@
+use Rattle.std.specs.Prelude.{Some}
 use Rattle.wsm_intake.specs.Intake.{said}
 use Rattle.wsm_row_laws.proofs.ClockedSources.{leave_mark}
 use Rattle.wsm_row_laws.proofs.laws.counts_deliveries.Goals as goal
