@@ -30,10 +30,14 @@ def quoted(text: str) -> str:
     return "'" + text.replace("'", "''") + "'"
 
 
+def literal(value: Value) -> str:
+    return str(value) if isinstance(value, int) else quoted(value)
+
+
 def written(work: Work) -> Iterator[str]:
     """The texts of a statement with its values."""
     for row in work.rows:
-        yield re.sub(r"\?([0-9]+)", lambda found: quoted(str(row[int(found[1]) - 1])), work.statement) if row else work.statement
+        yield re.sub(r"\?([0-9]+)", lambda found: literal(row[int(found[1]) - 1]), work.statement) if row else work.statement
 
 
 def lock_of(path: str) -> IO[str]:
