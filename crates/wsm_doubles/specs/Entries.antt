@@ -4,6 +4,7 @@ use Rattle.std.specs.Hash.FoldHasher.{finish, initial, write}
 use Rattle.wsm_windows.specs.declared.window.Shape.{Shape}
 use Rattle.wsm_admission.specs.declared.clock.Clock.{Clock}
 use Rattle.wsm_doubles.specs.declared.entries.Spot.{Spot}
+use Rattle.wsm_doubles.specs.declared.entry.Entry.{Entry}
 use Rattle.wsm_doubles.specs.Memory.{Memory, may_count}
 
 -- the identifier at a spot, with its time
@@ -16,6 +17,10 @@ entries_of texts spots = map (entry_at texts) spots
 -- a spot lies within the bytes
 abbrev pub Lies : List ℕ → Spot → Type 0
 Lies texts s = (s.start ≤ s.end) × (s.end ≤ length texts)
+
+-- an identifier that is handed over, with its time
+abbrev pub entry_of : Entry → List ℕ × ℤ
+entry_of e = (e.identifier.items, e.time)
 
 -- what stands for an entry where there is none
 abbrev pub no_entry : List ℕ × ℤ

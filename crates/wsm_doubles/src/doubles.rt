@@ -1,9 +1,11 @@
 //! The identifiers that are remembered.
 
-ghost use Rattle.std.specs.Prelude.{◌≡◌, ◌*◌, ◌<◌, ◌≤◌, max, ℕ, ℤ, [], ◌≤ℤ◌, false, true, not, length, Ok, IfOk, OnErr, OnOk};
+ghost use Rattle.std.specs.Prelude.{◌≡◌, ◌*◌, ◌<◌, ◌≤◌, max, ℕ, ℤ, [], ◌≤ℤ◌, false, true, not, length, map, slice_index_or, Ok, IfOk, OnErr, OnOk};
+ghost use Rattle.wsm_doubles.specs.Entries.{entry_of, no_entry};
 ghost use Rattle.wsm_windows.specs.Windows.{IsShape};
 ghost use Rattle.wsm_doubles.specs.Memory.{Kept, Memory, Recalls, IsSmall, is_known, knows, least_room, live, remembered};
 
+use crate::entry::Entry;
 use crate::hash::hash_of;
 use crate::late::Moment;
 use crate::table::Table;
@@ -47,6 +49,42 @@ impl Doubles {
             table: Table::new(alloc),
             room: LEAST_ROOM,
         }
+    }
+
+    /// The identifiers that others have, in their order, with the times of their records.
+    ///
+    /// # Errors
+    ///
+    /// Memory was refused, or there are more than 2^32 - 1.
+    pub fn resume(alloc: Global, entries: &[Entry]) -> Result<Doubles, AllocError>
+        ensures { IfOk result (λ d. d.entries ≡ map entry_of entries.now) }
+    {
+        let table = Table::of_entries(alloc, buckets_for(entries.len())?, entries)?;
+        let Some(twice) = table.len().checked_mul(2) else {
+            return Err(AllocError);
+        };
+        Ok(Doubles {
+            alloc,
+            table,
+            room: twice.max(LEAST_ROOM),
+        })
+    }
+
+    /// The identifier of a number, counted from 0 in the order in which they came. It may be one that isn't known any
+    /// more.
+    pub fn identifier(&self, number: usize) -> &[u8]
+        requires { number < length self.now.entries }
+        ensures { result.now ≡ (slice_index_or self.now.entries number no_entry).0 }
+    {
+        self.table.identifier(number)
+    }
+
+    /// The time of the record of the identifier of a number.
+    pub fn time(&self, number: usize) -> i64
+        requires { number < length self.now.entries }
+        ensures { result ≡ (slice_index_or self.now.entries number no_entry).1 }
+    {
+        self.table.time(number)
     }
 
     /// How many identifiers are kept, with those that aren't known any more.

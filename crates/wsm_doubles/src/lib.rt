@@ -21,10 +21,12 @@
 #![tactic(auto)]
 
 pub use doubles::Doubles;
+pub use entry::Entry;
 
 mod chains;
 mod doubles;
 mod entries;
+mod entry;
 mod hash;
 mod late;
 pub mod laws;

@@ -1,11 +1,13 @@
 //! Identifiers that are found by their hashes.
 
-ghost use Rattle.std.specs.Prelude.{◌≡◌, ◌<◌, ◌∷◌, ◌++◌, [], length, slice_index_or, IfOk, OnErr, OnOk};
-ghost use Rattle.wsm_doubles.specs.Entries.{Tabled, counts_as, hash_of, no_entry};
+ghost use Rattle.std.specs.Prelude.{◌≡◌, ◌<◌, ◌∷◌, ◌++◌, [], length, map, slice_index_or, IfOk, OnErr, OnOk};
+ghost use Rattle.wsm_doubles.specs.Entries.{Tabled, counts_as, entry_of, hash_of, no_entry};
 ghost use Rattle.wsm_doubles.specs.Memory.{knows, live};
 
 use crate::chains::Chains;
 use crate::entries::Entries;
+use crate::entry::Entry;
+use crate::hash::hash_of;
 use crate::late::Moment;
 use std::alloc::{AllocError, Global};
 use std::marker::Model;
@@ -110,6 +112,39 @@ impl Table {
             return Err(AllocError);
         }
         Ok(())
+    }
+
+    // These identifiers, with so many buckets.
+    pub(crate) fn of_entries(
+        alloc: Global,
+        buckets: usize,
+        entries: &[Entry],
+    ) -> Result<Table, AllocError>
+        requires { 0 < buckets }
+        ensures { IfOk result (λ t. t ≡ record { entries = map entry_of entries.now; buckets = buckets }) }
+    {
+        let mut table = Table::new(alloc).empty_as(alloc, buckets)?;
+        for entry in entries {
+            let text = entry.identifier.as_slice();
+            table.push(text, hash_of(text), entry.time)?;
+        }
+        Ok(table)
+    }
+
+    // The identifier of a number.
+    pub(crate) fn identifier(&self, number: usize) -> &[u8]
+        requires { number < length self.now.entries }
+        ensures { result.now ≡ (slice_index_or self.now.entries number no_entry).0 }
+    {
+        self.entries.text(number)
+    }
+
+    // The time of a number.
+    pub(crate) fn time(&self, number: usize) -> i64
+        requires { number < length self.now.entries }
+        ensures { result ≡ (slice_index_or self.now.entries number no_entry).1 }
+    {
+        self.entries.time(number)
     }
 
     // What may count at a moment, with so many buckets.

@@ -38,6 +38,20 @@ impl LineEvent {
         })
     }
 
+    /// The number of its line.
+    pub fn number(&self) -> u64
+        ensures { result ≡ self.now.number }
+    {
+        self.number
+    }
+
+    /// The event.
+    pub fn event(&self) -> &Event
+        ensures { event_of result.now ≡ self.now.event }
+    {
+        &self.event
+    }
+
     /// Hands it on.
     pub fn hand<T: Taker>(&self, taker: &mut T) -> Result<(), AllocError>
         ensures { OnOk result (T.took taker.old taker.new (self.now ∷ [])) }

@@ -9,7 +9,7 @@ use wsm_windows::Shape;
 impl Identifiers {
     ghost use Rattle.std.specs.Prelude.{◌≡◌, ◌<◌, ◌^◌, [], Some, IfOk, ℤ};
     ghost use Rattle.wsm_windows.specs.Windows.{IsShape};
-    ghost use Rattle.wsm_doubles.specs.Memory.{Memory};
+    ghost use Rattle.wsm_doubles.specs.Memory.{Memory, Recalls};
     ghost use Rattle.wsm_turns.specs.Turns.{Setting};
     ghost use Rattle.wsm_turns.specs.Known.{Passes, Remembers};
 
@@ -23,6 +23,25 @@ impl Identifiers {
             clock,
             shape,
         }
+    }
+
+    /// The identifiers that others have come to, by a query's clock and windows.
+    pub fn resume(doubles: Doubles, clock: Clock, shape: Shape) -> Identifiers
+        requires { IsShape shape }
+        ensures { (w : Setting) (mark : ℤ) (memory : Memory) → clock ≡ w.clock → shape ≡ w.shape → Recalls w.clock w.shape mark doubles memory → Remembers w mark result memory }
+    {
+        Identifiers {
+            doubles,
+            clock,
+            shape,
+        }
+    }
+
+    /// What is kept of them.
+    pub fn doubles(&self) -> &Doubles
+        ensures { result.now ≡ self.now.doubles }
+    {
+        &self.doubles
     }
 
     /// Whether a record with an identifier passes at a watermark: it is no double. Takes note of it then.

@@ -17,7 +17,7 @@ use crate::line_event::LineEvent;
 use crate::taker::Taker;
 use std::alloc::{AllocError, Global};
 use wsm_record::Event;
-use wsm_watermarks::{Held, MOST_CLOCKS, Stamp, Timed, Watermarks};
+use wsm_watermarks::{Held, MOST_CLOCKS, MOST_HELD, Stamp, Timed, Watermarks};
 
 /// The clocks of a log, and the records that wait for them.
 #[derive(Drop)]
@@ -30,7 +30,12 @@ pub struct Waiting {
 }
 
 impl Waiting {
-    ghost use Rattle.std.specs.Prelude.{◌≡◌, ◌+◌, ◌<◌, ◌≤◌, [], ◌∷◌, ℕ, List, Some, IfOk, OnOk, length, map};
+    ghost use Rattle.std.specs.Prelude.{◌≡◌, ◌+◌, ◌<◌, ◌≤◌, [], ◌∷◌, ℕ, List, Some, IfOk, OnOk, length, map, take};
+    ghost use Rattle.wsm_watermarks.specs.declared.held.Timed.{Timed as AnyTimed};
+    ghost use Rattle.wsm_watermarks.specs.declared.stamp.Stamp.{Stamp as AnyStamp};
+    ghost use Rattle.wsm_watermarks.specs.Held.{queued};
+    ghost use Rattle.wsm_watermarks.specs.Watermarks.{FitsMarks};
+    ghost use Rattle.wsm_turns.specs.Numbered.{Numbered, timed};
     ghost use Rattle.wsm_record.specs.Event.{event_of};
     ghost use Rattle.wsm_turns.specs.declared.clocks.Clocks.{Clocks as AnyClocks};
     ghost use Rattle.wsm_turns.specs.Clocks.{IsClocks};
@@ -51,6 +56,63 @@ impl Waiting {
             ahead: clocks.ahead,
             told: clocks.rule.start,
         })
+    }
+
+    /// The clocks that others have come to by the same rule, of which this watermark was told last. None waits yet.
+    ///
+    /// # Errors
+    ///
+    /// Memory was refused.
+    pub fn resume(
+        alloc: Global,
+        clocks: Clocks,
+        marks: Watermarks,
+        told: u64,
+    ) -> Result<Waiting, AllocError>
+        requires { clocks.room ≤ MOST_HELD }
+        ensures { (count : ℕ) (stamps : List AnyStamp) → marks.rule ≡ clocks.rule → length marks.table.said ≡ count → FitsMarks marks stamps → IfOk result (λ w. Hears clocks count w stamps told []) }
+    {
+        Ok(Waiting {
+            marks,
+            held: Held::open(alloc, clocks.room)?,
+            ahead: clocks.ahead,
+            told,
+        })
+    }
+
+    /// Has the record of the line of a number wait, as it did where others have come to this.
+    ///
+    /// # Errors
+    ///
+    /// Memory was refused.
+    pub fn wait(&mut self, time: u64, number: u64, event: &Event) -> Result<(), AllocError>
+        ensures { (c : AnyClocks) (count told : ℕ) (stamps : List AnyStamp) (waits : List (AnyTimed Numbered)) → Hears c count self.old stamps told waits →
+            OnOk result (Hears c count self.new stamps told (take c.room (queued (timed time number (event_of event.now)) waits))) }
+    {
+        let row = LineEvent::copied(number, event)?;
+        let _ = self.held.put(Timed { time, row });
+        Ok(())
+    }
+
+    /// The watermark that the clocks agree on.
+    pub fn marks(&self) -> &Watermarks
+        ensures { result.now ≡ self.now.marks }
+    {
+        &self.marks
+    }
+
+    /// The last watermark that was told.
+    pub fn told(&self) -> u64
+        ensures { result ≡ self.now.told }
+    {
+        self.told
+    }
+
+    /// The records that wait, the earliest first.
+    pub fn rows(&self) -> &[Timed<LineEvent>]
+        ensures { result.now ≡ self.now.held.rows }
+    {
+        self.held.rows()
     }
 
     // Takes note of the stamp of the record of the line of a number, and hands on what goes then: what waited and may pass, the

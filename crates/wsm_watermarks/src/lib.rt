@@ -26,7 +26,7 @@ pub use clocks::MOST_AGREEING;
 pub use held::{Held, MOST_HELD, Timed};
 pub use rule::Rule;
 pub use stamp::Stamp;
-pub use table::{MOST_CLOCKS, MOST_STAMPS};
+pub use table::{MOST_CLOCKS, MOST_STAMPS, Said};
 pub use watermarks::Watermarks;
 
 mod clocks;

@@ -69,6 +69,30 @@ impl Table {
         })
     }
 
+    /// The last stamps of clocks that another has, of so many stamps that came, of which those that came behind the
+    /// stamp of the number `since` are counted, with a time of `need` or later.
+    pub fn resume(said: Vec<Option<Said>>, heard: u64, since: u64, need: u64) -> Table
+        requires clocks { length said.items ≤ MOST_CLOCKS }
+        requires since { since ≤ heard }
+        ensures { result ≡ record { said = said.items; heard = heard; since = since; need = need } }
+    {
+        let ahead = count_of(&said, since, need);
+        Table {
+            said,
+            heard,
+            since,
+            need,
+            ahead,
+        }
+    }
+
+    /// Of each clock its last stamp.
+    pub fn said(&self) -> &[Option<Said>]
+        ensures { result.now ≡ self.now.said }
+    {
+        &self.said
+    }
+
     /// How many clocks there are.
     pub fn clocks(&self) -> usize
         ensures { result ≡ length self.now.said }

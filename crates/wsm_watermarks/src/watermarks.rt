@@ -4,12 +4,12 @@ ghost use Rattle.std.specs.Prelude.{◌≡◌, ◌+◌, ◌*◌, ◌/◌, ◌<�
 ghost use Rattle.wsm_watermarks.specs.declared.stamp.Stamp.{Stamp as AnyStamp};
 ghost use Rattle.wsm_watermarks.specs.Agreement.{behind, raised_by, tellers, voices};
 ghost use Rattle.wsm_watermarks.specs.Held.{mark_for};
-ghost use Rattle.wsm_watermarks.specs.Watermarks.{FitsMarks};
+ghost use Rattle.wsm_watermarks.specs.Watermarks.{FitsMarks, come_to};
 
 use crate::clocks::{Clocks, MOST_AGREEING};
 use crate::rule::Rule;
 use crate::stamp::Stamp;
-use crate::table::{MOST_CLOCKS, MOST_STAMPS, Table};
+use crate::table::{MOST_CLOCKS, MOST_STAMPS, Said, Table};
 use std::alloc::{AllocError, Global};
 use std::marker::Model;
 
@@ -60,6 +60,43 @@ impl Watermarks {
             rule,
             mark: rule.start,
         })
+    }
+
+    /// The watermark that another has come to by a rule: of each clock its last stamp, how many stamps have come, and
+    /// where it is. No later call takes memory.
+    ///
+    /// # Errors
+    ///
+    /// Memory was refused.
+    pub fn resume(
+        alloc: Global,
+        said: Vec<Option<Said>>,
+        heard: u64,
+        mark: u64,
+        rule: Rule,
+    ) -> Result<Watermarks, AllocError>
+        requires clocks { length said.items ≤ MOST_CLOCKS }
+        requires some { 0 < rule.agree }
+        requires few { rule.agree ≤ MOST_AGREEING }
+        requires step { 0 < rule.step }
+        ensures rule { IfOk result (λ marks. marks.rule ≡ rule) }
+        ensures clocks { IfOk result (λ marks. length marks.table.said ≡ length said.items) }
+        ensures fits { (past : List AnyStamp) → FitsMarks (come_to said.items heard mark rule) past → IfOk result (λ marks. FitsMarks marks past) }
+    {
+        let since = heard.saturating_sub(rule.forget);
+        Ok(Watermarks {
+            table: Table::resume(said, heard, since, need_after(rule, mark)),
+            clocks: Clocks::open(alloc, rule.agree)?,
+            rule,
+            mark,
+        })
+    }
+
+    /// Of each clock its last stamp, by which another goes on.
+    pub fn said(&self) -> &[Option<Said>]
+        ensures { result.now ≡ self.now.table.said }
+    {
+        self.table.said()
     }
 
     /// The watermark.
