@@ -124,6 +124,19 @@ impl Program {
         Program::of_parts(header, selection, update, fire)
     }
 
+    /// Its header and its sections, in their order, of which another program may be put together.
+    pub fn into_parts(self) -> (Header, Section, Section, Section)
+        ensures { program_of result.0 result.1.items result.2.items result.3.items ≡ self }
+    {
+        let Program {
+            header,
+            selection,
+            update,
+            fire,
+        } = self;
+        (header, selection, update, fire)
+    }
+
     /// What the program declares.
     pub fn header(&self) -> &Header
         ensures header { header_of result.now ≡ self.now.header }

@@ -30,7 +30,7 @@ impl Model for ClockNames {
 }
 
 impl ClockNames {
-    ghost use Rattle.std.specs.Prelude.{◌≡◌, [], None, IfOk, option_map, position, bytes_eq, false};
+    ghost use Rattle.std.specs.Prelude.{◌≡◌, ◌++◌, ◌∷◌, [], None, IfOk, IfSome, length, map, option_map, position, bytes_eq, slice_get, false, true};
     ghost use Rattle.wsm_record.specs.Name.{is_among};
     ghost use Rattle.wsm_turns.specs.Named.{IsWithin};
     ghost use Rattle.wsm_turns.specs.Voices.{numbered_by, voiced_by};
@@ -44,6 +44,55 @@ impl ClockNames {
             names: IndexSet::with_capacity(alloc, most)?,
             most,
         })
+    }
+
+    /// The names that others have come to, of which there may be so many; none where one stands twice, or there are more.
+    ///
+    /// # Errors
+    ///
+    /// Memory was refused.
+    pub fn resume(
+        alloc: Global,
+        most: usize,
+        names: &[Vec<u8>],
+    ) -> Result<Option<ClockNames>, AllocError>
+        ensures { IfOk result (λ o. IfSome o (λ known. known ≡ record { most = most; names = map (λ v. v.items) names.now })) }
+    {
+        let mut known = ClockNames::open(alloc, most)?;
+        for name in names {
+            if !known.add_new(name.to_vec(alloc)?)? {
+                return Ok(None);
+            }
+        }
+        Ok(Some(known))
+    }
+
+    // Adds a name that isn't there, where there is room for it.
+    fn add_new(&mut self, name: Vec<u8>) -> Result<bool, AllocError>
+        ensures most { self.new.most ≡ self.old.most }
+        ensures names { IfOk result (λ is_new. is_new ≡ true → self.new.names ≡ self.old.names ++ name.items ∷ []) }
+    {
+        if self.names.len() >= self.most {
+            return Ok(false);
+        }
+        Ok(self.names.insert(name)?)
+    }
+
+    /// How many have spoken.
+    pub fn len(&self) -> usize
+        ensures { result ≡ length self.now.names }
+    {
+        self.names.len()
+    }
+
+    /// The name of a clock, if it has spoken.
+    pub fn name(&self, clock: usize) -> Option<&[u8]>
+        ensures { option_map (λ t. t.now) result ≡ slice_get self.now.names clock }
+    {
+        match self.names.get_index(clock) {
+            Some(name) => Some(name.as_slice()),
+            None => None,
+        }
     }
 
     // Whose clock it is that a line names, or names none.
