@@ -23,6 +23,7 @@
 pub use folder::{FolderError, JournalFolder};
 pub use journal_file::{JournalError, JournalFile, ReplaceError};
 pub use marks::MAX_POSITION;
+pub use numbers::number_of;
 pub use reading::{Behind, Journal, read_journal};
 pub use records::Record;
 pub use writing::{append_record, are_rows, is_position};
