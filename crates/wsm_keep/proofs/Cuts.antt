@@ -1,6 +1,6 @@
 -- A keeper's cut, and its end.
-use Rattle.std.proofs.Common.{◌≡◌, ℕ, false, List, [], ◌++◌, map, ◌-ℤ◌, Result, Ok, Err, OnOk, refl, sym, ap, subst, ◌∙◌}
-use Rattle.std.proofs.lemmas.List.{map-append}
+use Rattle.std.proofs.Common.{◌≡◌, ℕ, false, List, [], ◌++◌, length, map, ◌-ℤ◌, Result, Ok, Err, OnOk, refl, sym, ap, subst, ◌∙◌, append_assoc}
+use Rattle.std.proofs.lemmas.List.{length-map, map-append}
 use Rattle.std.specs.Prelude.{filter}
 use Rattle.wsm_semantics.specs.Query.{Query}
 use Rattle.wsm_semantics.specs.FromWatermark.{Times, dropped_time, dropped_times}
@@ -11,7 +11,9 @@ use Rattle.wsm_record.specs.declared.words.Form.{Form}
 use Rattle.wsm_record.specs.declared.words.Form.TheVariants.{Panes, Istream, Dstream, Rstream}
 use Rattle.wsm_keep.specs.Staying.{events_in, row_of, thinned, done_by, staying, staying_for, staying_for_panes}
 use Rattle.wsm_keep.specs.Holds.{Written, read, text_of, times_in, Holds}
-use Rattle.wsm_keep.specs.Keeper.{says_event, Fits, IsCut, IsOf, IsLawfulQuery, HasSettings, takes}
+use Rattle.wsm_keep.specs.Items.{joined}
+use Rattle.wsm_keep.specs.Keeper.{says_event, AreAdded, Fits, IsCut, IsOf, IsLawfulQuery, HasSettings, takes}
+use Rattle.wsm_keep.proofs.Items.{joined-append}
 use Rattle.wsm_keep.proofs.Thinning.{thinned_same}
 use Rattle.wsm_keep.proofs.Queues.{queue_decides, holds_cut, queue_staying}
 use Rattle.wsm_keep.proofs.Behind.{behind_texts}
@@ -62,28 +64,27 @@ end_is q k rows cut =
     ∙ sym (map-append text_of (filter says_event queues.newer) (staying_for_panes read q queues.older))
     ∙ ap (map text_of) (sym queues.stays)
 
+-- so the texts of what was queued, and behind them of what waits, are theirs
+pub added_is : (q : Query) (k : Keeper) (rows : List Written) → IsCut q k rows → (old new : List ℕ) → new ≡ (old ++ joined (map row_of k.queue)) ++ joined (map row_of k.since) →
+    (count : ℕ) → count ≡ length (k.since ++ k.queue) → AreAdded old new (staying read q rows) count
+added_is q k rows cut old new are count is = record {
+  texts =
+      are
+      ∙ append_assoc old (joined (map row_of k.queue)) (joined (map row_of k.since))
+      ∙ ap (λ (t : List ℕ). old ++ t) (sym (joined-append (map row_of k.since) (map row_of k.queue)) ∙ ap joined (sym (map-append row_of k.since k.queue) ∙ end_is q k rows cut));
+  many =
+      is
+      ∙ sym (length-map (k.since ++ k.queue) row_of)
+      ∙ ap length (end_is q k rows cut)
+      ∙ length-map (staying read q rows) text_of;
+}
+
 -- no row has come
 pub none_stay : (q : Query) (form : Form) → staying_for form read q [] ≡ []
 none_stay q Panes = refl
 none_stay q Istream = refl
 none_stay q Dstream = refl
 none_stay q Rstream = refl
-
--- when its queue is cut is no matter
-pub with_most : (q : Query) (k : Keeper) (most : ℕ) (rows : List Written) → Fits q k rows → Fits q (record k { most = most }) rows
-with_most q k most rows fits = record {
-  of = record { shape = fits.of.shape; lateness = fits.of.lateness; form = fits.of.form };
-  queues = record {
-    newer = fits.queues.newer;
-    older = fits.queues.older;
-    split = fits.queues.split;
-    since = fits.queues.since;
-    holds = fits.queues.holds;
-    before = fits.queues.before;
-    stays = fits.queues.stays;
-    alone = fits.queues.alone;
-  };
-}
 
 -- ---- a row that can't stay
 
@@ -100,6 +101,10 @@ not_taken Rstream w h = absurd (cc)
 pub on_ok : {T E A B : Type 0} (r : Result T E) → (A → B) → OnOk r A → OnOk r B
 on_ok (Ok x) f a = f a
 on_ok (Err e) f a = a
+
+pub always_ok : {T E A : Type 0} (r : Result T E) → A → OnOk r A
+always_ok (Ok x) a = a
+always_ok (Err e) a = tt
 
 pub on_ok_all : {T E A B C D : Type 0} (r : Result T E) → (A → B → C → D) → OnOk r A → OnOk r B → OnOk r C → OnOk r D
 on_ok_all (Ok x) f a b c = f a b c

@@ -1,12 +1,18 @@
 -- One row more in a queue, and one less.
-use Rattle.std.proofs.Common.{◌≡◌, ℕ, ◌+◌, ◌<◌, true, false, Bool, cond, List, [], ◌∷◌, ◌++◌, get_or, length, map, pos, reverse, take, refl, sym, ap, ◌∙◌, append_assoc}
-use Rattle.std.proofs.lemmas.List.{map-append, reverse-append, reverse-reverse, take_more}
+use Rattle.std.proofs.Common.{◌≡◌, ℕ, ◌+◌, ◌<◌, true, false, Bool, cond, List, [], ◌∷◌, ◌++◌, get_or, length, map, pos, reverse, take, refl, sym, ap, ◌∙◌, append_assoc, append-nil}
+use Rattle.std.proofs.lemmas.List.{length-map, length-reverse, map-append, reverse-append, reverse-reverse, take_more}
 use Rattle.wsm_semantics.specs.FromWatermark.{Times}
 use Rattle.wsm_keep.specs.declared.queue.Item.{Item}
 use Rattle.wsm_keep.specs.declared.what.What.TheVariants.{Selected}
 use Rattle.wsm_keep.specs.Holds.{Queued}
 use Rattle.wsm_keep.specs.Items.{item_of, joined, queue_of}
 use Rattle.wsm_keep.specs.Staying.{stays, told_after, thinned, done_by, row_of}
+
+-- texts behind others
+pub joined-append : (newer older : List (List ℕ)) → joined (newer ++ older) ≡ joined older ++ joined newer
+unfolding joined
+joined-append [] older = sym (append-nil (joined older))
+joined-append (text ∷ newer) older = ap (λ (t : List ℕ). t ++ text) (joined-append newer older) ∙ append_assoc (joined older) (joined newer) text
 
 map-reverse : {A B : Type 0} (f : A → B) (xs : List A) → map f (reverse xs) ≡ reverse (map f xs)
 map-reverse f [] = refl
@@ -18,6 +24,9 @@ abbrev pub no_item : Item
 no_item = record { what = Selected 0 (pos 0); start = 0; end = 0 }
 
 module _ (texts : List ℕ) where
+  pub queue_of-length : (items : List Item) → length (queue_of texts items) ≡ length items
+  queue_of-length items = length-reverse (map (item_of texts) items) ∙ length-map items (item_of texts)
+
   pub queue_of-more : (items : List Item) (i : Item) → queue_of texts (items ++ i ∷ []) ≡ item_of texts i ∷ queue_of texts items
   queue_of-more items i = ap reverse (map-append (item_of texts) items (i ∷ [])) ∙ reverse-append (map (item_of texts) items) (item_of texts i ∷ [])
 

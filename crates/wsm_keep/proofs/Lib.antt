@@ -10,3 +10,4 @@ pub mod Cuts
 pub mod OfKeys
 pub mod Natural
 pub mod Events
+pub mod OfEvents

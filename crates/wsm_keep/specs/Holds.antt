@@ -1,6 +1,7 @@
 -- What a queue has of the rows so far: whatever comes, of it and of all rows the same stay.
-use Rattle.std.specs.Prelude.{◌≡◌, ℕ, true, List, [], ◌∷◌, ◌++◌, map, ℤ, ◌≤ℤ◌, int_lt, nat_eq, if◌then◌else◌}
+use Rattle.std.specs.Prelude.{◌≡◌, ℕ, true, Ok, List, [], ◌∷◌, ◌++◌, map, ℤ, ◌≤ℤ◌, int_lt, nat_eq, if◌then◌else◌}
 use Rattle.std.specs.List.{AllByRecursion}
+use Rattle.wsm_record.specs.Event.{Event}
 use Rattle.wsm_windows.specs.declared.window.Shape.TheVariants.{Session}
 use Rattle.wsm_semantics.specs.Query.{Query, mark}
 use Rattle.wsm_semantics.specs.Lines.{Row}
@@ -18,6 +19,13 @@ read w = w.0
 
 abbrev pub text_of : Written → List ℕ
 text_of w = w.1
+
+-- events as rows, each with the text that it has
+abbrev pub row_with : (Event → List ℕ) → Event → Written
+row_with text e = (Ok e, text e)
+
+abbrev pub rows_with : (Event → List ℕ) → List Event → List Written
+rows_with text past = map (row_with text) past
 
 -- what a row does, with its text
 abbrev pub Queued : Type 0

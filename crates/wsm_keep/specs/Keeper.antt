@@ -1,5 +1,5 @@
 -- What a keeper has of the rows so far.
-use Rattle.std.specs.Prelude.{◌≡◌, ℕ, List, [], ◌∷◌, ◌++◌, map, filter, Bool, true, false, ℤ, Option, Some, None, Ok, if◌then◌else◌}
+use Rattle.std.specs.Prelude.{◌≡◌, ℕ, List, [], ◌∷◌, ◌++◌, length, map, filter, Bool, true, false, ℤ, Option, Some, None, Ok, if◌then◌else◌}
 use Rattle.wsm_record.specs.declared.words.Form.{Form}
 use Rattle.wsm_record.specs.declared.words.Form.TheVariants.{Panes}
 use Rattle.wsm_record.specs.Event.{Event}
@@ -11,6 +11,7 @@ use Rattle.wsm_keep.specs.declared.keeper.Keeper.{Keeper}
 use Rattle.wsm_keep.specs.declared.keeper.Judged.{Judged}
 use Rattle.wsm_keep.specs.Staying.{what_of, events_in, row_of, is_event, staying, staying_for_panes}
 use Rattle.wsm_keep.specs.Holds.{Written, Queued, read, text_of, Holds}
+use Rattle.wsm_keep.specs.Items.{joined}
 
 -- the watermark before an event that raises it
 abbrev pub rise_of : Query → List Event → Event → Option ℤ
@@ -81,6 +82,11 @@ pub record IsTold (q : Query) (rows : List Written) (e : Event) (judged : Judged
 pub record IsCut (q : Query) (k : Keeper) (rows : List Written) : Type 0 where
   pub fits : Fits q k rows
   pub texts : map row_of k.queue ≡ map text_of (staying_for_panes read q fits.queues.older)
+
+-- the texts of rows stand behind those that were there, the oldest first, and so many rows they are
+pub record AreAdded (old new : List ℕ) (rows : List Written) (count : ℕ) : Type 0 where
+  pub texts : new ≡ old ++ joined (map text_of rows)
+  pub many : count ≡ length rows
 
 -- a query whose windows are some and whose sessions take records by their own times
 pub record IsLawfulQuery (q : Query) : Type 0 where

@@ -1,12 +1,12 @@
 //! What is kept of the rows so far.
 
-ghost use Rattle.std.specs.Prelude.{◌≡◌, ◌∷◌, ℕ, List, [], Ok, false, map, unwrap_or, pos, ◌-ℤ◌, ◌≤ℤ◌, IfOk, IfSome, OnOk};
+ghost use Rattle.std.specs.Prelude.{◌≡◌, ◌∷◌, ◌++◌, ℕ, List, [], Ok, false, length, map, unwrap_or, pos, ◌-ℤ◌, ◌≤ℤ◌, IfOk, IfSome, OnOk};
 ghost use Rattle.wsm_record.specs.Event.{Event as AnyEvent};
 ghost use Rattle.wsm_windows.specs.Windows.{IsShape, IsSpan};
 ghost use Rattle.wsm_semantics.specs.Query.{Query, mark};
 ghost use Rattle.wsm_keep.specs.Staying.{row_of, staying};
 ghost use Rattle.wsm_keep.specs.Holds.{Written, read, text_of};
-ghost use Rattle.wsm_keep.specs.Keeper.{Fits, HasSettings, IsCut, IsLawfulQuery, IsTold, queue_at, queued_if, since_at, takes as takes_what};
+ghost use Rattle.wsm_keep.specs.Keeper.{AreAdded, Fits, HasSettings, IsCut, IsLawfulQuery, IsTold, queue_at, queued_if, since_at, takes as takes_what};
 
 use crate::cut::firsts_at;
 use crate::queue::Queue;
@@ -91,7 +91,6 @@ impl Keeper {
         self.queue_row(judged, text)?;
         if self.most <= self.queue.len() {
             self.cut()?;
-            self.most = self.queue.len().saturating_mul(GROWTH).max(FEW);
         }
         Ok(())
     }
@@ -154,7 +153,23 @@ impl Keeper {
         let firsts = firsts_at(alloc, self.shape, expired, &self.queue)?;
         let queue = mem::replace(&mut self.queue, Queue::new(alloc));
         self.queue = queue.thinned(&firsts)?;
+        self.most = self.queue.len().saturating_mul(GROWTH).max(FEW);
         Ok(())
+    }
+
+    /// Adds the texts of the rows that stay, the oldest first, behind a text, and answers how many they are. The others go.
+    pub fn add_staying(&mut self, texts: &mut Vec<u8>) -> Result<usize, AllocError>
+        requires shape { IsShape self.old.shape }
+        requires lateness { IsSpan self.old.lateness }
+        ensures shape { self.new.shape ≡ self.old.shape }
+        ensures lateness { self.new.lateness ≡ self.old.lateness }
+        ensures fits { (q : Query) (rows : List Written) → IsLawfulQuery q → Fits q self.old rows → OnOk result (Fits q self.new rows) }
+        ensures added { (q : Query) (rows : List Written) → IsLawfulQuery q → Fits q self.old rows → IfOk result (AreAdded texts.old.items texts.new.items (staying read q rows)) }
+    {
+        self.cut()?;
+        self.queue.add_texts(texts)?;
+        self.since.add_texts(texts)?;
+        count_of(&self.queue, &self.since)
     }
 
     /// The rows that stay, the oldest first.
@@ -172,6 +187,16 @@ impl Keeper {
         queue.append(&since)?;
         Ok(queue)
     }
+}
+
+// How many rows two queues have.
+fn count_of(older: &Queue, newer: &Queue) -> Result<usize, AllocError>
+    ensures { IfOk result (λ count. count ≡ length (newer.now ++ older.now)) }
+{
+    let Some(count) = older.len().checked_add(newer.len()) else {
+        return Err(AllocError);
+    };
+    Ok(count)
 }
 
 // The last end of windows that have expired at a watermark, which is a time.

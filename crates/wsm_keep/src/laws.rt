@@ -1,6 +1,7 @@
 //! What holds of rows that are cut. The contract of each function is the law; a call of it does nothing.
 
 ghost use Rattle.std.specs.Prelude.{◌≡◌, ℕ, ℤ, List, [], ◌++◌, map, pos, ◌≤ℤ◌};
+ghost use Rattle.wsm_record.specs.Event.{Event};
 ghost use Rattle.wsm_semantics.specs.Lines.{Row, events};
 ghost use Rattle.wsm_semantics.specs.Needed.{needed};
 ghost use Rattle.wsm_semantics.specs.Query.{Query};
@@ -8,7 +9,7 @@ ghost use Rattle.wsm_record.specs.declared.event.Value.{Value};
 ghost use Rattle.wsm_windows.specs.Windows.{IsShape};
 ghost use Rattle.wsm_semantics.specs.Query.{SessionsByEvent};
 ghost use Rattle.wsm_semantics.specs.Summaries.{Plan, IsLawful, Runs};
-ghost use Rattle.wsm_keep.specs.Holds.{Written, read};
+ghost use Rattle.wsm_keep.specs.Holds.{Written, read, rows_with};
 ghost use Rattle.wsm_keep.specs.Staying.{staying};
 ghost use Rattle.wsm_keep.specs.GoesOn.{GoesOn};
 
@@ -20,4 +21,9 @@ pub fn goes_on()
     ensures needed { (q : Query) (rows : List Written) → events (map read (staying read q rows)) ≡ needed q (events (map read rows)) }
     ensures lines { (plan : Plan (List Value)) → IsLawful plan → (q : Query) → Runs plan q → IsShape q.shape → SessionsByEvent q → pos 0 ≤ℤ q.clock.lateness → (records : ℤ) (rows : List Written) (head : List Row) → events head ≡ [] →
         GoesOn q records (map read rows) (map read (staying read q rows) ++ head) }
+{}
+
+/// Of events that are rows, each with the text that it has, those stay that are needed.
+pub fn needed_stay()
+    ensures { (q : Query) (text : Event → List ℕ) (past : List Event) → staying read q (rows_with text past) ≡ rows_with text (needed q past) }
 {}

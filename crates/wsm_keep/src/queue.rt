@@ -1,6 +1,6 @@
 //! Rows that wait for a cut.
 
-ghost use Rattle.std.specs.Prelude.{◌≡◌, ℕ, List, [], ◌∷◌, ◌++◌, map, IfOk, OnOk};
+ghost use Rattle.std.specs.Prelude.{◌≡◌, ℕ, List, [], ◌∷◌, ◌++◌, length, map, IfOk, OnOk};
 ghost use Rattle.std.specs.List.{All};
 ghost use Rattle.wsm_semantics.specs.Needed.{is_one_of};
 ghost use Rattle.wsm_keep.specs.Staying as spec;
@@ -53,7 +53,9 @@ impl Queue {
     }
 
     /// How many rows there are.
-    pub fn len(&self) -> usize {
+    pub fn len(&self) -> usize
+        ensures { result ≡ length self.now }
+    {
         self.items.len()
     }
 

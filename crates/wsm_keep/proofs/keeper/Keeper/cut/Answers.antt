@@ -13,7 +13,7 @@ returns-clause-cut c = λ q rows lawful fits.
     let expired : SFits w64 c.in-Some.expired = search rules in
     let before : SFits w64 k.before = search rules in
     let late : SFits w64 k.lateness = search rules in
-    let new : Keeper = record k { queue = c.in_ok-self.field-0 } in
+    let new : Keeper = record k { queue = c.in_ok-self.field-0; most = c.max-self.result } in
     cut_is q lawful k new rows fits (times_of c.in_ok-firsts.firsts)
     (λ key. c.in_ok-firsts.ensures key ∙ ap (λ (t : ℤ). dropped_time k.shape t (times_in key k.queue)) (to_z-of_z expired ∙ c.in-Some.ensures.value ∙ (λ i. to_z-of_z before i -ℤ to_z-of_z late i)))
     (record { shape = refl; lateness = refl; form = refl }) refl refl
