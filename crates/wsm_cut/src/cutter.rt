@@ -7,7 +7,7 @@ ghost use Rattle.wsm_program.specs.Program.{Program as AnyProgram};
 ghost use Rattle.wsm_machine.specs.Meaning.{query_of};
 ghost use Rattle.wsm_keep.specs.Staying.{row_of, staying};
 ghost use Rattle.wsm_keep.specs.Holds.{Written, read, text_of};
-ghost use Rattle.wsm_keep.specs.Keeper.{IsTold, takes as takes_what};
+ghost use Rattle.wsm_keep.specs.Keeper.{AreAdded, IsTold, takes as takes_what};
 ghost use Rattle.wsm_cut.specs.Cutter.{Fits, IsReady};
 
 use std::alloc::{AllocError, Global};
@@ -57,6 +57,16 @@ impl Cutter {
         ensures fits { (p : AnyProgram) (rows : List Written) (e : AnyEvent) → Fits p self.old rows → IsTold (query_of p) rows e judged → OnOk result (Fits p self.new ((Ok e, text.now) ∷ rows)) }
     {
         self.keeper.take(judged, text)
+    }
+
+    /// Adds the texts of the rows that stay, the oldest first, behind a text, and answers how many they are. The others go.
+    pub fn add_staying(&mut self, texts: &mut Vec<u8>) -> Result<usize, AllocError>
+        requires { IsReady self.old }
+        ensures ready { IsReady self.new }
+        ensures fits { (p : AnyProgram) (rows : List Written) → Fits p self.old rows → OnOk result (Fits p self.new rows) }
+        ensures added { (p : AnyProgram) (rows : List Written) → Fits p self.old rows → IfOk result (AreAdded texts.old.items texts.new.items (staying read (query_of p) rows)) }
+    {
+        self.keeper.add_staying(texts)
     }
 
     /// The rows that stay, the oldest first.
