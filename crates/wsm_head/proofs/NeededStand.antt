@@ -110,6 +110,13 @@ module _ (q : Query) (records : ℤ) where
         room = (λ full. room.0 (sym verdict ∙ full), before.room);
       }
 
+-- as many are taken of the needed events by other RECORDS, where these are enough
+pub taken_alike : (q : Query) (records : ℤ) (past : List Event) → taken q past < unsigned_abs q.clock.records → unsigned_abs q.clock.records ≤ unsigned_abs records → taken (with_records records q) (needed q past) ≡ taken q (needed q past)
+taken_alike q records past few enough =
+    let most = admitted_count-le q.clock q.shape q.declared (needed q past) in
+    let within : taken q (needed q past) ≤ unsigned_abs records = omega (arith, most, enough) in
+    (alike_by q records (needed q past) (needed_room q past [] (has_room q past few)) within).count
+
 -- ---- the needed events
 
 left_behind : (n a b c : ℕ) → a ≤ n → c ≡ b → ((n - a) + b) + a ≡ n + c

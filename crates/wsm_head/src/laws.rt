@@ -1,6 +1,6 @@
 //! What holds of a run that goes on from what another has come to.
 
-ghost use Rattle.std.specs.Prelude.{◌≡◌, ◌<◌, ℕ, ℤ, List, ◌++◌, length, Option, unsigned_abs, IsTrue};
+ghost use Rattle.std.specs.Prelude.{◌≡◌, ◌≤◌, ◌<◌, ℕ, ℤ, List, ◌++◌, length, Option, unsigned_abs, IsTrue};
 ghost use Rattle.wsm_record.specs.Event.{Event};
 ghost use Rattle.wsm_semantics.specs.ByKey.{with_records};
 ghost use Rattle.wsm_semantics.specs.Needed.{needed};
@@ -15,6 +15,15 @@ ghost use Rattle.wsm_head.specs.Behind.{KeptFor, TurnsAlike, lines_behind, lines
 pub fn needed_stand()
     ensures stand { (p : Program) → IsTrue (is_program p) → (past : List Event) → let q = query_of p in taken q past < unsigned_abs q.clock.records → StandsFor (plan_of p) q (records_left q past) past (needed q past) }
     ensures by_program { (p : Program) (records : ℤ) → query_of (program_with records p) ≡ with_records records (query_of p) }
+{}
+
+/// What stands for a history has needed events of its own, which stand for that history too, while not all of its RECORDS are used
+/// up. By the RECORDS of the whole as many of them are taken.
+pub fn needed_again()
+    ensures stand { (p : Program) → IsTrue (is_program p) → (records : ℤ) → IsTrue (is_program (program_with records p)) → (past other : List Event) → StandsFor (plan_of p) (query_of p) records past other →
+        let q = query_of (program_with records p) in taken q other < unsigned_abs records → StandsFor (plan_of p) (query_of p) (records_left q other) past (needed q other) }
+    ensures taken { (p : Program) (records : ℤ) (other : List Event) → let q = query_of (program_with records p) in
+        taken q other < unsigned_abs records → unsigned_abs records ≤ unsigned_abs p.header.clock.records → taken (query_of p) (needed q other) ≡ taken q (needed q other) }
 {}
 
 /// Whatever event comes next, it has the same verdict after a history and after one that stands for it, writes the same rows, and
