@@ -1,0 +1,4 @@
+pub mod Whole
+pub mod Retracted
+pub mod LastRows
+pub mod AmountRows

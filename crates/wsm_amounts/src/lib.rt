@@ -1,0 +1,5 @@
+//! What the rows of panes come to, where these retract what they showed or accumulate it. The contract of each function is the law; a
+//! call of it does nothing.
+#![tactic(auto)]
+
+pub mod laws;
