@@ -319,16 +319,15 @@ def take_all(sink: Sink, head: Head) -> None:
         sink.end_run(end)
 
 
-def main() -> int:
-    asked = words()
-    telling.Signals.begin()
+def take(asked: Namespace) -> None:
+    """Takes what comes on standard input, or prints how many lines were taken."""
     head, records_kept = kept_in(asked.rows) if asked.rows else (Head(), 0)
     sink = Sink(asked, head, records_kept)
     if asked.taken:
         sink.place.secure()
         sink.place.close()
         print(sink.lines)
-        return 0
+        return
     try:
         sink.begin_run()
         if asked.live:
@@ -339,4 +338,17 @@ def main() -> int:
             take_all(sink, head)
     finally:
         sink.place.close()
+
+
+def main() -> int:
+    asked = words()
+    telling.Signals.begin()
+    try:
+        take(asked)
+    except Ended as why:
+        if asked.live and why.status == 1:
+            from .numbered import MUST_LOOK
+
+            raise Ended(str(why), MUST_LOOK) from None
+        raise
     return 0
