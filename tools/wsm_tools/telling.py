@@ -42,6 +42,20 @@ class Signals:
             raise Stopped
 
     @classmethod
+    def pause(cls, seconds: float) -> bool:
+        """Waits; whether a signal ended that."""
+        from time import sleep
+
+        try:
+            cls.is_waiting = True
+            sleep(0 if cls.number else seconds)
+        except Stopped:
+            pass
+        finally:
+            cls.is_waiting = False
+        return cls.number != 0
+
+    @classmethod
     def read(cls, descriptor: int, most: int) -> bytes:
         """What has come, nothing at the end."""
         try:
