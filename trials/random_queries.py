@@ -11,6 +11,7 @@ Prints the cases that differ, what each was, and how many were the same.
 """
 import os
 import random
+import re
 import subprocess
 import sys
 import tempfile
@@ -39,6 +40,15 @@ CONDITIONS = [
 ]
 SOURCES = ["x", "y", "z", "a"]
 DAMAGED = ["x", "r,a,1", "r,a,1x,2,true,red", "r,a,1,2,maybe,red", "w", "w,a", "r,a,1,2,true,green", "w,x", "w,x,1,2", "w,x,7y", "w,,5"]
+
+# What stands in the place of a name, a number, a word or any token of a query that is changed.
+WORDS = [
+    *"KEYS FIELD INT BOOL ENUM START SKEW LATENESS RECORDS SELECT WHERE HAVING WINDOW FIXED SLIDING SESSION EVERY EMIT".split(),
+    *"DISCARDING EARLY LATE ISTREAM AND NOT TRUE COUNT SUM ANY IF END FROM SOURCES a n b c x yz".split(),
+    *"0 1 7 60 1001 99999999 1000000000001 9223372036854775807 9223372036854775808".split(), *", ; ( ) . .. + - * / % = <> < >=".split(),
+    "?", "_", "a" * 33, "",
+]
+OTHERS = "SUM MIN ANY ALL AND OR ACCUMULATING DISCARDING RETRACTING PANES ISTREAM DSTREAM FIXED SESSION INT BOOL TRUE KEY EARLY LATE WHERE HAVING".split()
 
 
 @dataclass
@@ -74,6 +84,21 @@ def query_of(pick):
         f"SELECT {', '.join(columns)}{where}{having}\nWINDOW {shape} {mode}{early}{late}\nEMIT {form};\n"
     )
     return Drawn(text, sources, start, low)
+
+
+def changed(text: str, pick: random.Random) -> str:
+    """The text with some of its names or numbers replaced, or else with a token dropped, doubled or replaced."""
+    parts = re.findall(r"\s+|[A-Za-z]\w*|[0-9]+|\.\.|<>|<=|>=|.", text)
+    way = pick.choice(["names", "names", "numbers", "numbers", "words", "tokens"])
+    choices = {
+        "names": (r"[a-z]", ["a", "b", "c", "n", "q", "red", "x", "SUM(n)", "COUNT(*)"]), "numbers": (r"[0-9]", [word for word in WORDS if word.isdigit()]),
+        "words": (r"[A-Z]", OTHERS), "tokens": (r"\S", WORDS),
+    }
+    kind, others = choices[way]
+    places = [number for number, part in enumerate(parts) if re.match(kind, part)]
+    for at in pick.sample(places, min(len(places), pick.choice([1, 1, 2, 3]) if way != "tokens" else 1)):
+        parts[at] = pick.choice([*others, f"{parts[at]} {parts[at]}", ""]) if way == "tokens" else pick.choice(others)
+    return "".join(parts)
 
 
 def rows_of(pick, query, keys="aaaaabbbbc", count=None):
