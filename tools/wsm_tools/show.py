@@ -22,20 +22,22 @@ from __future__ import annotations
 
 import json
 import os
+import re
 import sys
-from datetime import datetime, timedelta, timezone, tzinfo
+from datetime import tzinfo
 from typing import TYPE_CHECKING, BinaryIO, Callable, Dict, List, Optional, Sequence, TextIO, Union
 
 from . import asking, telling
+from .columns import KINDS, WHOLE
+from .counts import END, REFUSAL
 from .telling import BAD_WORDS, BAD_WRITE, Ended, printable
+from .times import UNITS, moment, zone_of
 
 if TYPE_CHECKING:
     from argparse import Namespace
 
-UNITS = {"s": 1, "ms": 1000, "us": 1_000_000}
 EXACT = {"s": "seconds", "ms": "milliseconds", "us": "microseconds"}
 ENDED = ("rows", "admitted", "late", "refused", "panes")
-KINDS = ("early", "on_time", "late", "final")
 Cell = Union[str, int, bool]
 
 
@@ -68,25 +70,28 @@ class Lines:
     def shown(self, front: Sequence[str], times: Sequence[str], values: Sequence[str]) -> Optional[List[Cell]]:
         if len(values) != len(self.query.columns):
             return None
-        dates = [self.date(int(time)) for time in times]
-        return [*front, *dates, *(value_of(column.kind, value) for column, value in zip(self.query.columns, values))]
+        dates = [self.date(whole(time)) for time in times]
+        return [*front, *dates, *map(value_of, self.query.columns, values)]
 
     def date(self, time: int) -> Cell:
         """A time of a zone, or the number where none is asked for or no calendar has it."""
-        if self.zone is None:
-            return time
-        whole, rest = divmod(time, UNITS[self.unit])
-        try:
-            moment = datetime(1970, 1, 1, tzinfo=timezone.utc) + timedelta(seconds=whole, microseconds=rest * 1_000_000 // UNITS[self.unit])
-            return moment.astimezone(self.zone).isoformat(timespec=EXACT[self.unit])
-        except OverflowError:
-            return time
+        shown = None if self.zone is None else moment(time, self.unit, self.zone)
+        return time if shown is None else shown.isoformat(timespec=EXACT[self.unit])
 
 
-def value_of(kind: str, text: str) -> Cell:
-    if kind == "INT":
-        return int(text)
-    return {"true": True, "false": False}[text] if kind == "BOOL" else text
+def whole(text: str) -> int:
+    if not re.fullmatch(WHOLE, text):
+        raise ValueError(text)
+    return int(text)
+
+
+def value_of(column: asking.Column, text: str) -> Cell:
+    """The value of a cell, which is one of its column's."""
+    if column.kind == "INT":
+        return whole(text)
+    if column.kind == "BOOL":
+        return {"true": True, "false": False}[text]
+    return column.names[column.names.index(text)]
 
 
 # ---- forms
@@ -154,10 +159,7 @@ FORMS: Dict[str, Callable[[Lines], Form]] = {"table": Table, "csv": Csv, "json":
 
 def is_other(line: str) -> bool:
     """Whether a line is of the run, and no row of the query."""
-    tag, *cells = line.split(",")
-    if tag == "refused":
-        return len(cells) == 2 and cells[0].isdigit() and cells[1].isalpha()
-    return tag == "end" and len(cells) == len(ENDED) and all(map(str.isdigit, cells))
+    return re.fullmatch(f"{END}|{REFUSAL}", line) is not None
 
 
 # ---- the command
@@ -211,10 +213,8 @@ def words() -> Namespace:
 
 
 def main() -> int:
-    asked, zone = words(), None
-    if asked.zone:
-        from .times import zone_of
-        zone = zone_of(asked.zone)
+    asked = words()
+    zone = zone_of(asked.zone) if asked.zone else None
     lines = Lines(asking.query_of(asked.query, asked.program), asked.columns.split(",") if asked.columns else None, zone, asked.unit)
     try:
         return 1 if show(lines, FORMS[asked.form](lines), sys.stdin.buffer, sys.stdout) else 0

@@ -23,6 +23,7 @@ PATTERNS = [
     *(f"{day}{apart}{clock}{offset}" for offset in ("%z", " %z", "") for day in DAYS for apart in (" ", "T") for clock in CLOCKS),
 ]
 RFC_3339 = r"(\d{4})-(\d\d)-(\d\d)[Tt ](\d\d):(\d\d):(\d\d)(?:\.\d{1,9})?(?:[Zz]|([+-])(\d\d):(\d\d))"
+UNITS = {"s": 1, "ms": 1000, "us": 1_000_000}  # of a number that is a time, how many are a second
 COUNTS = {"seconds": 1, "milliseconds": 10**3, "microseconds": 10**6}
 PLAUSIBLE = (10**8, 10**10)  # seconds since 1970, for a number that isn't said to be a time
 Seconds = Callable[[str], Optional[int]]
@@ -37,6 +38,15 @@ def zone_of(name: str) -> tzinfo:
         return ZoneInfo(name)
     except (OSError, ValueError, KeyError):
         raise Ended(f"{name} is no zone that this system knows: Europe/Berlin is one, and UTC", BAD_WORDS) from None
+
+
+def moment(time: int, unit: str, zone: tzinfo) -> Optional[datetime]:
+    """A number of a unit since 1970 as a date of a zone, where the calendar has it."""
+    whole, rest = divmod(time, UNITS[unit])
+    try:
+        return (datetime(1970, 1, 1, tzinfo=timezone.utc) + timedelta(seconds=whole, microseconds=rest * 1_000_000 // UNITS[unit])).astimezone(zone)
+    except OverflowError:
+        return None
 
 
 def day_and_clock(year: int, month: int, day: int, hour: int, minute: int, second: int) -> Optional[datetime]:
