@@ -29,6 +29,8 @@ if TYPE_CHECKING:
 WIDEST = 100  # characters of a line that are shown
 AT_ONCE = 4  # questions that the program is asked side by side
 TENTHS = 18  # how often an interval is made a tenth of what it was
+UNITS = [2**10, 2**20, 2**30]  # by which a sum is parted in two
+MOST_COLUMNS = 16
 KINDS = {NAME: "zz", NUMBER: "7"}
 SIGNS = ", ; ( ) . .. + - * / % = <> < <= > >=".split()  # what is tried at a place
 MEND = {
@@ -433,7 +435,21 @@ class Linter:
 
     def on_sum(self, where: str, part: Part) -> None:
         self.sentences.append(f"In {where}: a SUM of as many values as RECORDS may leave 64 bits. Declare narrower fields, or count in a coarser unit.")
+        self.in_two(part)
         self.fewer_records()
+
+    def in_two(self, column: Part) -> None:
+        """The whole units and the rest of a sum as two columns, by the smallest unit with which the program takes it."""
+        whole, all_columns = re.fullmatch(r"SUM\s*\(\s*((?:[^()]|\([^()]*\))*?)\s*\)", column.text), self.answer.those("column")
+        if not whole or len(all_columns) == MOST_COLUMNS:
+            return
+        value = whole[1] if re.fullmatch(r"\w+", whole[1]) else f"({whole[1]})"
+        for unit in UNITS:
+            columns = f"SUM({value} / {unit}), SUM({value} % {unit})"
+            alone = self.with_at((all_columns[0].begin, all_columns[-1].end), columns)
+            if Answer(self.program, alone).status == 0:
+                self.mend(f"`{columns}`, which make it up exactly (docs/INVOICES.md, large sums)", (column.begin, column.end), columns)
+                return
 
     def fewer_records(self) -> None:
         """The most RECORDS that the program takes."""
