@@ -36,7 +36,7 @@ another sum, or lines of another DIR, query or source end it with status 9 and n
 sink took meanwhile with 8.
 
 What QUERY says is asked of PROGRAM, or where that is left out of the program that the variable WSM names, of `wsm` at
-the top of the repository or of that on PATH. It ends with status 2 by its words, 3 and 6 by QUERY as `wsm` does, 7 where
+the top of the repository or of that on PATH. It ends with status 2 by its words, 3, 4 and 6 by QUERY as `wsm` does, 7 where
 the tables can't be read or written. Where the lines end before those that were taken do, or in the middle of one, the
 run was killed: that is status 6 too.
 """
@@ -55,7 +55,7 @@ from .counts import Counts, made, refusal_of
 from .kept import Head, kept_in
 from .rows import lines_of
 from .tables import File, Rows, Server, Work, place_of, quoted
-from .telling import BAD_READ, Ended, shown, was_stopped
+from .telling import BAD_READ, REJECTED, Ended, shown, was_stopped
 
 if TYPE_CHECKING:
     from argparse import Namespace
@@ -254,10 +254,13 @@ class Sink:
 
 
 def query_in(asked: Namespace) -> asking.Query:
-    """The query that is asked for, whose keys may stand in a file of their own."""
+    """The query that is asked for, whose keys may stand in a file of their own. One that is rejected gets no table."""
     wsm = asked.program or asking.program()
     if not asked.keys:
-        return asking.query_of(asked.query, wsm)
+        query = asking.query_of(asked.query, wsm)
+        if query.answer.status == REJECTED:
+            raise Ended(f"{asked.query}: {query.answer.fault['told']}", REJECTED)
+        return query
     from .parted import Parted
 
     return Parted(wsm, asked.query, asked.keys).query()
