@@ -9,3 +9,5 @@ pub mod AssignedAmounts
 pub mod SessionAmounts
 pub mod Law
 pub mod LastRows
+pub mod Rises
+mod RetractingPanes

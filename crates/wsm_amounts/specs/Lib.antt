@@ -2,3 +2,5 @@ pub mod Whole
 pub mod Retracted
 pub mod LastRows
 pub mod AmountRows
+pub mod Rises
+pub mod RiseRows

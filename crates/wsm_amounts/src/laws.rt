@@ -11,6 +11,7 @@ ghost use Rattle.wsm_semantics.specs.Invoice.{Invoices};
 ghost use Rattle.wsm_amounts.specs.Whole.{StandWhole};
 ghost use Rattle.wsm_amounts.specs.Retracted.{IsShownLess};
 ghost use Rattle.wsm_amounts.specs.LastRows.{WritesEach, LastRowsAddUp};
+ghost use Rattle.wsm_amounts.specs.Rises.{RisesAlike};
 
 /// By the time a window is dropped, the firing that stands for it has all of its records, whatever fired before and whatever
 /// was joined to it.
@@ -37,4 +38,10 @@ pub fn invoice()
 /// its records come to, if HAVING is true of each firing.
 pub fn last_rows()
     ensures { (q : Query) → IsShape q.shape → SessionsByEvent q → q.mode ≡ Accumulating → q.form ≡ Panes → WritesEach q → (c : ℕ) (amount : Amount) → AddsAmounts q c amount → LastRowsAddUp q c amount }
+{}
+
+/// A rise of the watermark in one step writes as many rows of panes, retract rows too, as in two with nothing between them: a pane that
+/// fires in both together fires in one of the two.
+pub fn rises_alike()
+    ensures { (q : Query) → IsShape q.shape → SessionsByEvent q → pos 0 ≤ℤ q.clock.lateness → q.form ≡ Panes → RisesAlike q }
 {}
