@@ -33,7 +33,7 @@ impl Waiting {
     ghost use Rattle.std.specs.Prelude.{◌≡◌, ◌+◌, ◌<◌, ◌≤◌, [], ◌∷◌, ℕ, List, Some, IfOk, OnOk, length, map, take};
     ghost use Rattle.wsm_watermarks.specs.declared.held.Timed.{Timed as AnyTimed};
     ghost use Rattle.wsm_watermarks.specs.declared.stamp.Stamp.{Stamp as AnyStamp};
-    ghost use Rattle.wsm_watermarks.specs.Held.{queued};
+    ghost use Rattle.wsm_watermarks.specs.Held.{AreByTime, queued};
     ghost use Rattle.wsm_watermarks.specs.Watermarks.{FitsMarks};
     ghost use Rattle.wsm_turns.specs.Numbered.{Numbered, timed};
     ghost use Rattle.wsm_record.specs.Event.{event_of};
@@ -110,7 +110,9 @@ impl Waiting {
 
     /// The records that wait, the earliest first.
     pub fn rows(&self) -> &[Timed<LineEvent>]
-        ensures { result.now ≡ self.now.held.rows }
+        ensures rows { result.now ≡ self.now.held.rows }
+        ensures by_time { AreByTime self.now.held.rows }
+        ensures few { length self.now.held.rows ≤ self.now.held.room }
     {
         self.held.rows()
     }
