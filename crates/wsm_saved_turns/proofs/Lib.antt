@@ -1,0 +1,5 @@
+pub mod Writing
+pub mod Reading
+pub mod Named
+pub mod Queued
+pub mod Resuming

@@ -1,0 +1,12 @@
+use Rattle.std.proofs.Common.{◌≡◌, map}
+use Rattle.wsm_saved.specs.Lists.{read_some}
+use Rattle.wsm_saved.proofs.Listing.{behind}
+use Rattle.wsm_saved_turns.specs.Turns.{read_row, row_of}
+use Rattle.wsm_saved_turns.proofs.clocks.restore_some_rows.Given as goal
+
+-- those that are left come behind those so far
+abbrev pub invariant-loop-left : goal.invariant-loop-left
+invariant-loop-left l = read_some read_row l.count l.fn.from ≡ behind (map row_of l.rows.items) (read_some read_row l.left l.from)
+
+abbrev pub decreases-loop-left : goal.decreases-loop-left
+decreases-loop-left l = l.left
