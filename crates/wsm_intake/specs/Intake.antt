@@ -79,11 +79,14 @@ events_text q past (g ∷ gs) = event_text q g.number past g.event ++ events_tex
 abbrev pub fault_text : ℕ → LineFault → List ℕ
 fault_text number why = codes "refused," ++ decimal number ++ codes "," ++ fault_word why ++ codes "\n"
 
--- the bytes of the turn of a line after those before it
+-- the bytes of the turn of the line of a number, after lines of which this is kept
+abbrev pub text_of_turn : Query → Option Clocks → Kept → ℕ → Said → List ℕ
+text_of_turn q clocks k number (Err why) = fault_text number why
+text_of_turn q clocks k number (Ok x) = events_text q k.fed (turn_at (setting_of clocks q) k number (Ok x)).goes
+
+-- those of the turn of a line after those before it
 abbrev pub turn_text : Query → Option Clocks → List Said → Said → List ℕ
-turn_text q clocks before (Err why) = fault_text (length before + 1) why
-turn_text q clocks before (Ok x) = let k = kept (setting_of clocks q) before in
-    events_text q k.fed (turn_at (setting_of clocks q) k (length before + 1) (Ok x)).goes
+turn_text q clocks before x = text_of_turn q clocks (kept (setting_of clocks q) before) (length before + 1) x
 
 -- the bytes of all turns
 abbrev pub turns_text : Query → Option Clocks → List Said → List ℕ

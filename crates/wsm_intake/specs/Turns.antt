@@ -1,5 +1,5 @@
 -- What an intake keeps, and how it fits the lines so far.
-use Rattle.std.specs.Prelude.{◌≡◌, ℕ, ◌+◌, List, ◌∷◌, ◌++◌, length, Option}
+use Rattle.std.specs.Prelude.{◌≡◌, ◌≤◌, ℕ, ◌+◌, ℤ, List, ◌∷◌, ◌++◌, length, Option}
 use Rattle.wsm_admission.specs.Admission.{counter}
 use Rattle.wsm_semantics.specs.Lines.{Line, End}
 use Rattle.wsm_semantics.specs.declared.ending.Totals.{Totals}
@@ -18,9 +18,10 @@ use Rattle.wsm_turns.specs.Named.{Knows}
 use Rattle.wsm_turns.specs.Voices.{Voiced}
 use Rattle.wsm_turns.specs.Turns.{Kept, Setting, Spoken, Turn, kept, setting_of, watermark}
 use Rattle.wsm_intake.specs.Counts.{counts_of}
-use Rattle.wsm_intake.specs.Intake.{end_line, end_text, events_text, fault_count, names_of, said, said_at, turn_text}
+use Rattle.wsm_intake.specs.Intake.{end_line, end_text, events_text, fault_count, names_of, said, said_at, text_of_turn, turn_at, turn_text}
 use Rattle.wsm_turns.specs.Waits.{Hear}
 use Rattle.wsm_turns.specs.Known.{Remembers}
+use Rattle.wsm_intake.specs.FirstLine.{first_of}
 use Rattle.wsm_intake.specs.Tells.{Serves}
 
 abbrev pub setting_by : Option Clocks → Program → Setting
@@ -46,6 +47,16 @@ pub record Fits (s : Source) (clocks : Option Clocks) (p : Program) (t : Intake)
   pub doubles : t.doubles ≡ counter (left_count (setting_by clocks p) (said s clocks p.header.schema before))
   pub silent : t.silent ≡ counter (silent_count (said s clocks p.header.schema before))
 
+-- after lines of which this is kept, which need not be what the program itself comes to by them; the query has so many RECORDS
+pub record FitsBehind (s : Source) (clocks : Option Clocks) (p : Program) (whole : ℤ) (t : Intake) (k : Kept) (before : List (List ℕ)) : Type 0 where
+  pub holds : Holds clocks p t k
+  pub records : t.records ≡ whole
+  pub first : t.first.items ≡ first_of before
+  pub few : length k.stamps ≤ length (said s clocks p.header.schema before)
+  pub reader : Follows s before t.reader
+  pub names : Knows (named_in clocks) t.names (names_of s clocks p.header.schema before)
+  pub taken : t.taken ≡ length (said s clocks p.header.schema before)
+
 -- a turn was taken, with its bytes behind those that were there; so many records more were left out
 pub record Goes (clocks : Option Clocks) (p : Program) (old new : Intake) (k : Kept) (turn : Turn) (left : ℕ) : Type 0 where
   pub holds : Holds clocks p new turn.kept
@@ -63,6 +74,11 @@ pub record Speaks (clocks : Option Clocks) (p : Program) (old new : Intake) (k :
 pub record Turned (s : Source) (clocks : Option Clocks) (p : Program) (new : Intake) (before : List (List ℕ)) (line : List ℕ) : Type 0 where
   pub fits : Fits s clocks p new (line ∷ before)
   pub text : new.told.lines.items ≡ turn_text (query_of p) clocks (said s clocks p.header.schema before) (said_at s clocks p.header.schema before line)
+
+-- one line more after lines of which this is kept, with the bytes of its turn
+pub record TurnedBehind (s : Source) (clocks : Option Clocks) (p : Program) (records : ℤ) (new : Intake) (k : Kept) (before : List (List ℕ)) (line : List ℕ) : Type 0 where
+  pub fits : FitsBehind s clocks p records new (turn_at (setting_by clocks p) k (length (said s clocks p.header.schema before) + 1) (said_at s clocks p.header.schema before line)).kept (line ∷ before)
+  pub text : new.told.lines.items ≡ text_of_turn (query_of p) clocks k (length (said s clocks p.header.schema before) + 1) (said_at s clocks p.header.schema before line)
 
 -- the last line, with these totals
 abbrev pub line_of : Totals → Line

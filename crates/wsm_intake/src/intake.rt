@@ -1,7 +1,7 @@
 //! What the lines of a log so far come to.
 
-ghost use Rattle.std.specs.Prelude.{◌≡◌, ◌<◌, ◌^◌, [], ℤ, Option, IfOk, option_map};
-ghost use Rattle.wsm_program.specs.Program.{Program};
+ghost use Rattle.std.specs.Prelude.{◌≡◌, ◌<◌, ◌^◌, [], ℤ, Option, IfOk, IsTrue, OnOk, if◌then◌else◌, nat_eq, option_map};
+ghost use Rattle.wsm_program.specs.Program.{Program, is_program};
 ghost use Rattle.wsm_turns.specs.declared.clocks.Clocks.{Clocks as AnyClocks};
 ghost use Rattle.wsm_turns.specs.Known.{Passes, Remembers};
 ghost use Rattle.wsm_turns.specs.Turns.{Kept, watermark};
@@ -25,20 +25,24 @@ use wsm_turns::{
 /// wait, and the identifiers of records that came.
 /// It has the bytes that are written for the last line.
 pub struct Intake {
-    told: Told,
-    reader: LineReader,
-    waiting: Option<Waiting>,
+    pub(crate) told: Told,
+    pub(crate) reader: LineReader,
+    pub(crate) waiting: Option<Waiting>,
     // Those of clocks, where lines name them.
-    names: Option<ClockNames>,
-    identifiers: Identifiers,
+    pub(crate) names: Option<ClockNames>,
+    pub(crate) identifiers: Identifiers,
+    // The RECORDS of the query, of which the engine's program may have those that are left.
+    pub(crate) records: i64,
+    // The first line.
+    pub(crate) first: Vec<u8>,
     // The lines so far.
-    taken: u64,
+    pub(crate) taken: u64,
     // Those that were no event.
-    faults: u64,
+    pub(crate) faults: u64,
     // The records that were left out.
-    doubles: u64,
+    pub(crate) doubles: u64,
     // Those that had no voice.
-    silent: u64,
+    pub(crate) silent: u64,
 }
 
 impl Drop for Intake {
@@ -49,6 +53,8 @@ impl Drop for Intake {
             waiting: _,
             names: _,
             identifiers: _,
+            records: _,
+            first: _,
             taken: _,
             faults: _,
             doubles: _,
@@ -58,13 +64,14 @@ impl Drop for Intake {
 }
 
 impl Intake {
-    ghost use Rattle.std.specs.Prelude.{◌≡◌, ◌++◌, ◌+◌, ◌<◌, ◌^◌, ◌∷◌, [], true, false, List, ℕ, Option, Some, Ok, IfOk, IfSome, OnErr, OnOk, length};
+    ghost use Rattle.std.specs.Prelude.{◌≡◌, ◌++◌, ◌+◌, ◌<◌, ◌^◌, ◌∷◌, [], true, false, List, ℕ, ℤ, Option, Some, Ok, IfOk, IfSome, OnErr, OnOk, length};
     ghost use Rattle.std.specs.Io.KnownBytes.{Appends};
     ghost use Rattle.wsm_record.specs.Event.{Event as AnyEvent};
     ghost use Rattle.wsm_admission.specs.Admission.{counter};
     ghost use Rattle.wsm_csv.specs.Device.{TakesPart};
     ghost use Rattle.wsm_program.specs.Program.{Program};
     ghost use Rattle.wsm_machine.specs.Meaning.{query_of};
+    ghost use Rattle.wsm_semantics.specs.Query.{mark};
     ghost use Rattle.wsm_lines.specs.declared.source.Source.{Source as AnySource};
     ghost use Rattle.wsm_lines.specs.Reader.{clock_read, event_read};
     ghost use Rattle.wsm_watermarks.specs.declared.stamp.Stamp.{Stamp as AnyStamp};
@@ -77,7 +84,8 @@ impl Intake {
     ghost use Rattle.wsm_intake.specs.Counts.{counts_of};
     ghost use Rattle.wsm_intake.specs.Intake.{Said, fault_count, fault_text, left_at, line_behind, said, turn_at, voiced_in};
     ghost use Rattle.wsm_intake.specs.Tells.{Serves};
-    ghost use Rattle.wsm_intake.specs.Turns.{Ends, Fits, Goes, Holds, Speaks, Turned, line_of, setting_by, spoken_read};
+    ghost use Rattle.wsm_intake.specs.Turns.{Ends, Fits, FitsBehind, Goes, Holds, Speaks, Turned, TurnedBehind, line_of, setting_by, spoken_read};
+    ghost use Rattle.wsm_intake.specs.GoesOn.{GoesOn, GoneOn};
 
     /// Before the first line, with these clocks, where there are any.
     pub fn open(
@@ -87,8 +95,10 @@ impl Intake {
         clocks: Option<Clocks>,
     ) -> Result<Intake, AllocError>
         requires { AreClocks clocks }
-        ensures { IfOk result (λ intake. Fits source clocks verified intake []) }
+        ensures fits { IfOk result (λ intake. Fits source clocks verified intake []) }
+        ensures goes_on { IfOk result (λ intake. GoesOn source clocks verified intake []) }
     {
+        let records = records_of(&verified);
         let identifiers = identifiers_of(alloc, &verified);
         let told = Told::open(alloc, verified)?;
         let count = count_in(clocks, told.schema().key_count());
@@ -100,6 +110,8 @@ impl Intake {
             waiting,
             names,
             identifiers,
+            records,
+            first: Vec::new(alloc),
             taken: 0,
             faults: 0,
             doubles: 0,
@@ -107,13 +119,38 @@ impl Intake {
         })
     }
 
+    /// The same, and the events that the engine needs are kept, so that another may go on from what this one comes to.
+    pub fn open_kept(
+        alloc: Global,
+        verified: Verified,
+        source: Source,
+        clocks: Option<Clocks>,
+    ) -> Result<Intake, AllocError>
+        requires { AreClocks clocks }
+        ensures { IfOk result (λ intake. GoesOn source clocks verified intake []) }
+    {
+        let mut intake = Intake::open(alloc, verified, source, clocks)?;
+        intake.told.keep(alloc);
+        Ok(intake)
+    }
+
     /// Takes the turn of a line. The bytes are then those that are written for it.
     pub fn take(&mut self, line: &[u8]) -> Result<(), AllocError>
-        ensures { (s : AnySource) (clocks : Option AnyClocks) (p : Program) (before : List (List ℕ)) → Fits s clocks p self.old before → OnOk result (Turned s clocks p self.new before line.now) }
+        ensures turned { (s : AnySource) (clocks : Option AnyClocks) (p : Program) (before : List (List ℕ)) → Fits s clocks p self.old before → OnOk result (Turned s clocks p self.new before line.now) }
+        ensures goes_on { (s : AnySource) (clocks : Option AnyClocks) (p : Program) (before : List (List ℕ)) → GoesOn s clocks p self.old before → OnOk result (GoneOn s clocks p self.new before line.now) }
+    {
+        self.take_line(line)
+    }
+
+    // The same, whatever is kept of the lines before.
+    fn take_line(&mut self, line: &[u8]) -> Result<(), AllocError>
+        ensures turned { (s : AnySource) (clocks : Option AnyClocks) (p : Program) (before : List (List ℕ)) → Fits s clocks p self.old before → OnOk result (Turned s clocks p self.new before line.now) }
+        ensures behind { (s : AnySource) (clocks : Option AnyClocks) (p : Program) (records : ℤ) (k : Kept) (before : List (List ℕ)) → FitsBehind s clocks p records self.old k before → OnOk result (TurnedBehind s clocks p records self.new k before line.now) }
     {
         let Some(taken) = self.taken.checked_add(1) else {
             return Err(AllocError);
         };
+        note_first(self.taken, line, &mut self.first)?;
         self.told.lines.clear();
         match self.reader.read(self.told.schema(), line) {
             Ok(()) => {
@@ -207,6 +244,35 @@ impl Intake {
         Ok(LogTotals { totals, counts })
     }
 
+    /// The engine with what it told, the reader, and the RECORDS of the query.
+    pub(crate) fn into_parts(self) -> (Told, LineReader, i64)
+        ensures told { result.0 ≡ self.told }
+        ensures reader { result.1 ≡ self.reader }
+        ensures records { result.2 ≡ self.records }
+    {
+        let Intake {
+            told,
+            reader,
+            waiting: _,
+            names: _,
+            identifiers: _,
+            records,
+            first: _,
+            taken: _,
+            faults: _,
+            doubles: _,
+            silent: _,
+        } = self;
+        (told, reader, records)
+    }
+
+    /// The watermark of the program.
+    pub fn mark(&self) -> i64
+        ensures { (p : Program) (past : List AnyEvent) → Serves p self.now.told past → result ≡ mark (query_of p) past }
+    {
+        self.told.mark()
+    }
+
     /// How many lines were taken.
     pub fn taken(&self) -> u64
         ensures { result ≡ self.now.taken }
@@ -262,6 +328,26 @@ impl Intake {
             panes: totals.panes,
         }
     }
+}
+
+// Keeps the first line, where none was taken before it.
+fn note_first(taken: u64, line: &[u8], first: &mut Vec<u8>) -> Result<(), AllocError>
+    ensures { OnOk result (first.new.items ≡ (if nat_eq taken 0 then line.now else first.old.items)) }
+{
+    if taken == 0 {
+        first.clear();
+        first.extend_from_slice(line)
+    } else {
+        Ok(())
+    }
+}
+
+// The RECORDS of a program.
+fn records_of(verified: &Verified) -> i64
+    ensures records { result ≡ verified.now.header.clock.records }
+    ensures lawful { IsTrue (is_program verified.now) }
+{
+    verified.program().header().clock.records
 }
 
 // No identifier of a program's records has come.

@@ -8,6 +8,10 @@ pub use wsm_log_rows::LogEnd;
 pub use wsm_turns::Listener;
 
 mod intake;
+mod resuming;
 mod run;
+mod saving;
+mod standing;
+mod staying;
 mod told;
 mod totals;

@@ -6,11 +6,12 @@ ghost use Rattle.wsm_semantics.specs.Lines.{refusal_lines};
 ghost use Rattle.wsm_semantics.specs.Text.{lines_text};
 ghost use Rattle.wsm_intake.specs.Intake.{fault_text};
 
+use crate::staying::Staying;
 use itoa::Buffer;
 use std::alloc::{AllocError, Global};
 use wsm_admission::Refusal;
 use wsm_csv::{refusal_text, rows_text};
-use wsm_engine::Engine;
+use wsm_engine::{Engine, Reply};
 use wsm_lines::LineFault;
 use wsm_record::{Event, Schema};
 use wsm_rules::Verified;
@@ -20,6 +21,8 @@ use wsm_turns::Taker;
 pub struct Told {
     pub engine: Engine,
     pub lines: Vec<u8>,
+    // What stays of the events, where that is kept.
+    pub staying: Option<Staying>,
 }
 
 impl Drop for Told {
@@ -27,19 +30,21 @@ impl Drop for Told {
         let Told {
             engine: _,
             lines: _,
+            staying: _,
         } = self;
     }
 }
 
 impl Told {
-    ghost use Rattle.std.specs.Prelude.{◌≡◌, ◌++◌, [], List, IfOk, OnOk};
-    ghost use Rattle.wsm_record.specs.Event.{Event as AnyEvent};
+    ghost use Rattle.std.specs.Prelude.{◌≡◌, ◌++◌, ◌∷◌, [], true, List, IfOk, IfSome, OnOk, is_some, length, take};
+    ghost use Rattle.wsm_record.specs.Event.{Event as AnyEvent, event_of};
     ghost use Rattle.wsm_record.specs.Schema.{Declared};
     ghost use Rattle.wsm_program.specs.Program.{Program};
     ghost use Rattle.wsm_machine.specs.Meaning.{query_of};
     ghost use Rattle.wsm_semantics.specs.Query.{mark};
     ghost use Rattle.wsm_semantics.specs.Lines.{refusal_lines};
     ghost use Rattle.wsm_semantics.specs.Text.{lines_text};
+    ghost use Rattle.wsm_intake.specs.Staying.{Cuts, Fed, IsListed};
     ghost use Rattle.wsm_intake.specs.Tells.{Serves};
 
     /// Before the first event.
@@ -52,7 +57,39 @@ impl Told {
         Ok(Told {
             engine,
             lines: Vec::new(alloc),
+            staying: None,
         })
+    }
+
+    /// The same, and what stays of the events is kept.
+    pub fn open_kept(alloc: Global, verified: Verified) -> Result<Told, AllocError>
+        ensures serves { IfOk result (λ told. Serves verified told []) }
+        ensures keeps { IfOk result (λ told. is_some told.staying ≡ true) }
+    {
+        let mut told = Told::open(alloc, verified)?;
+        told.keep(alloc);
+        Ok(told)
+    }
+
+    /// Keeps what stays of the events from now on, where none came yet.
+    pub fn keep(&mut self, alloc: Global)
+        ensures serves { (p : Program) → Serves p self.old [] → Serves p self.new [] }
+        ensures keeps { is_some self.new.staying ≡ true }
+        ensures others { self.new ≡ record self.old { staying = self.new.staying } }
+    {
+        self.staying = Some(Staying::open(alloc, &self.engine));
+    }
+
+    /// The engine alone.
+    pub fn into_engine(self) -> Engine
+        ensures { result ≡ self.engine }
+    {
+        let Told {
+            engine,
+            lines: _,
+            staying: _,
+        } = self;
+        engine
     }
 
     /// The watermark.
@@ -67,6 +104,42 @@ impl Told {
         ensures { result.now ≡ self.now.engine.program.header.schema }
     {
         self.engine.schema()
+    }
+
+    /// Adds the list of the events that are needed, the oldest first, behind a text, where what stays is kept, and answers whether it
+    /// is.
+    ///
+    /// # Errors
+    ///
+    /// Memory was refused. A part may have been added, and no event may be taken any more.
+    pub fn save_needed(&mut self, text: &mut Vec<u8>) -> Result<bool, AllocError>
+        ensures serves { (p : Program) (past : List AnyEvent) → Serves p self.old past → OnOk result (Serves p self.new past) }
+        ensures saved { (p : Program) (past : List AnyEvent) → Serves p self.old past → IfOk result (λ is_saved. is_saved ≡ true → IsListed (query_of p) past text.old.items text.new.items) }
+        ensures grows { OnOk result (take (length text.old.items) text.new.items ≡ text.old.items) }
+        ensures is_saved { IfOk result (λ is_saved. is_saved ≡ is_some self.old.staying) }
+        ensures keeps { is_some self.new.staying ≡ is_some self.old.staying }
+        ensures others { self.new ≡ record self.old { staying = self.new.staying } }
+    {
+        match &mut self.staying {
+            Some(staying) => {
+                staying.add_list(text)?;
+                Ok(true)
+            }
+            None => Ok(false),
+        }
+    }
+
+    // Has the engine take an event.
+    fn feed(&mut self, event: &Event) -> Result<Reply, AllocError>
+        ensures fed { (p : Program) (past : List AnyEvent) → Serves p self.old past → IfOk result (Fed p self.new.engine past (event_of event.now)) }
+        ensures staying { (p : Program) (past : List AnyEvent) → Serves p self.old past → OnOk result (IfSome self.new.staying (λ c. Cuts p c (event_of event.now ∷ past))) }
+        ensures keeps { is_some self.new.staying ≡ is_some self.old.staying }
+        ensures lines { self.new.lines.items ≡ self.old.lines.items }
+    {
+        match &mut self.staying {
+            Some(staying) => staying.feed(&mut self.engine, event),
+            None => Ok(self.engine.feed(event)),
+        }
     }
 
     // Adds the line of a refusal, if there is one.
@@ -92,7 +165,7 @@ impl Taker for Told {
 
     // Takes the turn of an event, and adds its bytes.
     fn take(&mut self, number: u64, event: &Event) -> Result<(), AllocError> {
-        let reply = self.engine.feed(event);
+        let reply = self.feed(event)?;
         self.tell(number, reply.refusal)?;
         rows_text(self.engine.schema(), self.engine.rows(), &mut self.lines)?;
         Ok(())

@@ -26,12 +26,12 @@ returns-in_err-intake-clause-ends_early g c =
 
 pub returns-clause-completes : goal.returns-clause-completes
 returns-clause-completes g c =
-    c.take_log.ensures.completes (g.R.Read.remaining c.args.reader) c.args.source c.args.clocks c.args.verified c.in_ok-lines.ensures c.in_ok-intake.ensures
+    c.take_log.ensures.completes (g.R.Read.remaining c.args.reader) c.args.source c.args.clocks c.args.verified c.in_ok-lines.ensures c.in_ok-intake.ensures.fits
 
 pub returns-clause-ends_early : goal.returns-clause-ends_early
 returns-clause-ends_early g c =
-    c.take_log.ensures.ends_early (g.R.Read.remaining c.args.reader) c.args.source c.args.clocks c.args.verified c.in_ok-lines.ensures c.in_ok-intake.ensures
+    c.take_log.ensures.ends_early (g.R.Read.remaining c.args.reader) c.args.source c.args.clocks c.args.verified c.in_ok-lines.ensures c.in_ok-intake.ensures.fits
 
 pub returns-clause-counts : goal.returns-clause-counts
 returns-clause-counts g c =
-    c.take_log.ensures.counts (g.R.Read.remaining c.args.reader) c.args.source c.args.clocks c.args.verified c.in_ok-lines.ensures c.in_ok-intake.ensures
+    c.take_log.ensures.counts (g.R.Read.remaining c.args.reader) c.args.source c.args.clocks c.args.verified c.in_ok-lines.ensures c.in_ok-intake.ensures.fits

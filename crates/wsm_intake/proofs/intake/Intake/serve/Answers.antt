@@ -32,7 +32,7 @@ returns-in-None c = λ clocks p k names holds knows few.
     let x = spoken_read r v.voice in
     Speaks clocks p old (record old { told = c.take.new.self }) k v (turn_by w k old.taken o x) (left_by o x.identifier k.memory)) (sym is) (record {
       goes = record {
-        holds = record { told = record { program = tells.serves.program; fits = tells.serves.fits }; waiting = holds.waiting; remembers = remembers_on w (watermark w k.fed) (watermark w (e ∷ k.fed)) old.identifiers k.memory (mark_rises w k.fed (record { number = old.taken; event = e } ∷ [])) holds.remembers };
+        holds = record { told = record { program = tells.serves.program; fits = tells.serves.fits; staying = tells.serves.staying }; waiting = holds.waiting; remembers = remembers_on w (watermark w k.fed) (watermark w (e ∷ k.fed)) old.identifiers k.memory (mark_rises w k.fed (record { number = old.taken; event = e } ∷ [])) holds.remembers };
         text = tells.text;
         doubles = no_more old.doubles;
         others = refl;

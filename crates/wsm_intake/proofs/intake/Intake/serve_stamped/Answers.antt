@@ -1,14 +1,13 @@
-use Rattle.std.proofs.Common.{◌≡◌, ◌∙◌, ◌<◌, ◌+◌, ℕ, List, Option, Some, length, sym, ap, subst}
+use Rattle.std.proofs.Common.{◌≡◌, ◌∙◌, ◌+◌, ℕ, List, Option, Some, length, sym, ap, subst}
 use Rattle.std.proofs.lemmas.Result.{on_ok_weaker}
-use Rattle.std.specs.Prelude.{IfSome}
 use Rattle.wsm_admission.specs.Admission.{counter}
 use Rattle.wsm_lines.specs.Reader.{clock_read}
 use Rattle.wsm_turns.specs.declared.voice.Voice.{Voice}
-use Rattle.wsm_turns.specs.Clocks.{count_in, named_in}
+use Rattle.wsm_turns.specs.Clocks.{named_in}
 use Rattle.wsm_turns.specs.Heard.{left_by, silent_in}
 use Rattle.wsm_turns.specs.Named.{Knows}
 use Rattle.wsm_turns.specs.Turns.{turn_by}
-use Rattle.wsm_turns.specs.Voices.{stamp_by, voiced}
+use Rattle.wsm_turns.specs.Voices.{voiced}
 use Rattle.wsm_intake.specs.declared.intake.Intake.{Intake}
 use Rattle.wsm_intake.specs.Turns.{Goes, setting_by, spoken_read}
 use Rattle.wsm_intake.proofs.Counts.{some_more}

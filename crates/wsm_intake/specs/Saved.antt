@@ -1,0 +1,68 @@
+-- What an intake has come to, as a text. It says which events the engine needs and all else as it is; a run goes on from it as from the
+-- lines themselves.
+use Rattle.std.specs.Prelude.{◌≡◌, ◌<◌, ◌≤◌, ℕ, ℤ, List, length, reverse, Option, IsTrue, unsigned_abs}
+use Rattle.wsm_record.specs.Event.{Event}
+use Rattle.wsm_semantics.specs.Query.{Query}
+use Rattle.wsm_semantics.specs.Needed.{needed}
+use Rattle.wsm_program.specs.Program.{Program, is_program}
+use Rattle.wsm_machine.specs.Meaning.{plan_of, query_of}
+use Rattle.wsm_lines.specs.declared.source.Source.{Source}
+use Rattle.wsm_doubles.specs.Memory.{Memory}
+use Rattle.wsm_turns.specs.declared.clocks.Clocks.{Clocks}
+use Rattle.wsm_turns.specs.declared.waiting.Waiting.{Waiting}
+use Rattle.wsm_turns.specs.Clocks.{count_in}
+use Rattle.wsm_turns.specs.Turns.{Kept, watermark}
+use Rattle.wsm_head.specs.StandsFor.{program_with, taken}
+use Rattle.wsm_head.specs.Behind.{KeptFor}
+use Rattle.wsm_saved.specs.Lists.{ListFits, list_text}
+use Rattle.wsm_saved.specs.Events.{EventFits, event_text}
+use Rattle.wsm_intake.specs.Intake.{names_of, said}
+use Rattle.wsm_intake.specs.FirstLine.{first_of}
+use Rattle.wsm_intake.specs.Turns.{setting_by}
+use Rattle.wsm_intake.specs.GoesOn.{kept_of}
+use Rattle.wsm_intake.specs.Resuming.{left_behind}
+use Rattle.wsm_intake.specs.Standing.{AreFacts, Facts, Says, facts_text}
+use Rattle.wsm_intake.specs.declared.standing.Standing.{Standing}
+
+-- the events that a query needs of a history, the oldest first
+abbrev pub needed_in_order : Query → List Event → List Event
+needed_in_order q past = reverse (needed q past)
+
+-- what is kept of lines, by a query whose events these are
+abbrev pub facts_of : Source → Option Clocks → Program → List (List ℕ) → Query → Kept → Option Waiting → Memory → Facts
+facts_of s clocks p before q k waiting known = record {
+  lines = length (said s clocks p.header.schema before);
+  first = first_of before;
+  left = left_behind q k.fed;
+  stamps = k.stamps;
+  told = k.told;
+  waits = k.waits;
+  names = names_of s clocks p.header.schema before;
+  known = known;
+  memory = k.memory;
+  waiting = waiting;
+}
+
+-- a text says what lines come to by a source, clocks and a program
+pub record Saved (s : Source) (clocks : Option Clocks) (p : Program) (before : List (List ℕ)) (text : List ℕ) : Type 0 where
+  pub records : ℤ
+  pub other : Kept
+  pub lesser : IsTrue (is_program (program_with records p))
+  pub fewer : unsigned_abs records ≤ unsigned_abs p.header.clock.records
+  pub room : taken (query_of (program_with records p)) other.fed < unsigned_abs records
+  pub stands : KeptFor (plan_of p) (query_of p) records (kept_of s clocks p before) other
+  pub some : 0 < length (said s clocks p.header.schema before)
+  pub few : length other.stamps ≤ length (said s clocks p.header.schema before)
+  pub waiting : Option Waiting
+  pub known : Memory
+  pub facts : let q = query_of (program_with records p) in
+      let w = setting_by clocks (program_with records p) in
+      AreFacts clocks (count_in clocks (length p.header.schema.keys)) w (watermark w other.fed) (facts_of s clocks p before q other waiting known)
+  pub events : ListFits EventFits (needed_in_order (query_of (program_with records p)) other.fed)
+  pub is : let q = query_of (program_with records p) in
+      text ≡ facts_text clocks (facts_of s clocks p before q other waiting known) (list_text event_text (needed_in_order q other.fed))
+
+-- what was read from such a text, with these events behind it
+pub record IsRead (s : Source) (clocks : Option Clocks) (p : Program) (before : List (List ℕ)) (text : List ℕ) (saved : Saved s clocks p before text) (t : Standing) (events : List Event) : Type 0 where
+  pub says : Says clocks (count_in clocks (length p.header.schema.keys)) t (facts_of s clocks p before (query_of (program_with saved.records p)) saved.other saved.waiting saved.known)
+  pub needs : events ≡ needed_in_order (query_of (program_with saved.records p)) saved.other.fed
