@@ -16,39 +16,39 @@ use Rattle.wsm_live.specs.Told.{Turn, handed_out, told, with_lines}
 use Rattle.wsm_live.specs.Live.{IsBehind, Takes, Took, chunk_lines}
 use Rattle.wsm_live.proofs.ToldLemmas.{handed-append, with-append}
 
-pub Took-none : {T : Type 0} (stands : T → Turn → List (List ℕ) → Type 0) (r : LiveRun T) (out : List ℕ) → Took stands [] r r out out
-Took-none stands r out turn before behind = record { behind = behind; out = sym (append-nil out) }
+pub Took-none : {T B : Type 0} (turn : B → Turn) (stands : T → B → List (List ℕ) → Type 0) (r : LiveRun T) (out : List ℕ) → Took turn stands [] r r out out
+Took-none turn stands r out by before behind = record { behind = behind; out = sym (append-nil out) }
 
-pub Took-join : {T : Type 0} (stands : T → Turn → List (List ℕ) → Type 0) (first second : List (List ℕ)) (a b c : LiveRun T) (x y z : List ℕ)
-    → Took stands first a b x y → Took stands second b c y z → Took stands (first ++ second) a c x z
-Took-join stands first second a b c x y z one two turn before behind =
-    let here = one turn before behind in
-    let there = two turn (with_lines before first) here.behind in
+pub Took-join : {T B : Type 0} (turn : B → Turn) (stands : T → B → List (List ℕ) → Type 0) (first second : List (List ℕ)) (a b c : LiveRun T) (x y z : List ℕ)
+    → Took turn stands first a b x y → Took turn stands second b c y z → Took turn stands (first ++ second) a c x z
+Took-join turn stands first second a b c x y z one two by before behind =
+    let here = one by before behind in
+    let there = two by (with_lines before first) here.behind in
     record {
-      behind = subst (IsBehind stands c turn) (sym (with-append before first second)) there.behind;
+      behind = subst (IsBehind turn stands c by) (sym (with-append before first second)) there.behind;
       out = there.out
-          ∙ ap (λ (l : List ℕ). l ++ handed_out turn (with_lines before first) second) here.out
-          ∙ append_assoc x (handed_out turn before first) (handed_out turn (with_lines before first) second)
-          ∙ ap (λ (l : List ℕ). x ++ l) (sym (handed-append turn before first second));
+          ∙ ap (λ (l : List ℕ). l ++ handed_out (turn by) (with_lines before first) second) here.out
+          ∙ append_assoc x (handed_out (turn by) before first) (handed_out (turn by) (with_lines before first) second)
+          ∙ ap (λ (l : List ℕ). x ++ l) (sym (handed-append (turn by) before first second));
     }
 
 -- what was told is handed out behind a text
-pub Took-out : {T : Type 0} (stands : T → Turn → List (List ℕ) → Type 0) (lines : List (List ℕ)) (a b : LiveRun T) (text from to : List ℕ)
-    → Took stands lines a b [] text → to ≡ from ++ text → Took stands lines a b from to
-Took-out stands lines a b text from to took is turn before behind =
-    let here = took turn before behind in
+pub Took-out : {T B : Type 0} (turn : B → Turn) (stands : T → B → List (List ℕ) → Type 0) (lines : List (List ℕ)) (a b : LiveRun T) (text from to : List ℕ)
+    → Took turn stands lines a b [] text → to ≡ from ++ text → Took turn stands lines a b from to
+Took-out turn stands lines a b text from to took is by before behind =
+    let here = took by before behind in
     record { behind = here.behind; out = is ∙ ap (λ (l : List ℕ). from ++ l) here.out }
 
 -- a line was taken, and what was written for it is numbered
-pub line_taken : {T : Type 0} (stands : T → Turn → List (List ℕ) → Type 0) (old new : LiveRun T) (turn : Turn) (before : List (List ℕ)) (line text from to : List ℕ)
-    → IsBehind stands old turn before → stands new.taker turn (line ∷ before) → text ≡ turn before line
+pub line_taken : {T B : Type 0} (turn : B → Turn) (stands : T → B → List (List ℕ) → Type 0) (old new : LiveRun T) (by : B) (before : List (List ℕ)) (line text from to : List ℕ)
+    → IsBehind turn stands old by before → stands new.taker by (line ∷ before) → text ≡ turn by before line
     → count_of new.numbering ≡ count_of old.numbering + length (lines_in text)
     → sum_in new.numbering ≡ sum_over (sum_in old.numbering) (lines_in text)
     → to ≡ from ++ numbered (count_of old.numbering) (sum_in old.numbering) (lines_in text)
-    → Takes stands turn before (line ∷ []) new from to
-line_taken stands old new turn before line text from to behind stood is count sum out =
-    let was : List (List ℕ) = told turn before in
-    let more : List (List ℕ) = lines_in (turn before line) in
+    → Takes turn stands by before (line ∷ []) new from to
+line_taken turn stands old new by before line text from to behind stood is count sum out =
+    let was : List (List ℕ) = told (turn by) before in
+    let more : List (List ℕ) = lines_in (turn by before line) in
     let lines : lines_in text ≡ more = ap lines_in is in
     record {
       behind = record {
@@ -65,27 +65,27 @@ line_taken stands old new turn before line text from to behind stood is count su
 -- ---- lines that are taken one by one
 
 -- of all lines these are left, and the others were taken
-pub record TakenTo {T : Type 0} (stands : T → Turn → List (List ℕ) → Type 0) (all left : List (List ℕ)) (old new : LiveRun T) (from to : List ℕ) : Type 0 where
+pub record TakenTo {T B : Type 0} (turn : B → Turn) (stands : T → B → List (List ℕ) → Type 0) (all left : List (List ℕ)) (old new : LiveRun T) (from to : List ℕ) : Type 0 where
   pub done : List (List ℕ)
   pub parts : done ++ left ≡ all
-  pub took : Took stands done old new from to
+  pub took : Took turn stands done old new from to
 
-pub TakenTo-none : {T : Type 0} (stands : T → Turn → List (List ℕ) → Type 0) (all : List (List ℕ)) (r : LiveRun T) (out : List ℕ) → TakenTo stands all all r r out out
-TakenTo-none stands all r out = record { done = []; parts = refl; took = Took-none stands r out }
+pub TakenTo-none : {T B : Type 0} (turn : B → Turn) (stands : T → B → List (List ℕ) → Type 0) (all : List (List ℕ)) (r : LiveRun T) (out : List ℕ) → TakenTo turn stands all all r r out out
+TakenTo-none turn stands all r out = record { done = []; parts = refl; took = Took-none turn stands r out }
 
-pub TakenTo-more : {T : Type 0} (stands : T → Turn → List (List ℕ) → Type 0) (all left more rest : List (List ℕ)) (a b c : LiveRun T) (x y z : List ℕ)
-    → TakenTo stands all left a b x y → left ≡ more ++ rest → Took stands more b c y z → TakenTo stands all rest a c x z
-TakenTo-more stands all left more rest a b c x y z so_far is took = record {
+pub TakenTo-more : {T B : Type 0} (turn : B → Turn) (stands : T → B → List (List ℕ) → Type 0) (all left more rest : List (List ℕ)) (a b c : LiveRun T) (x y z : List ℕ)
+    → TakenTo turn stands all left a b x y → left ≡ more ++ rest → Took turn stands more b c y z → TakenTo turn stands all rest a c x z
+TakenTo-more turn stands all left more rest a b c x y z so_far is took = record {
   done = so_far.done ++ more;
   parts = append_assoc so_far.done more rest ∙ ap (λ (ls : List (List ℕ)). so_far.done ++ ls) (sym is) ∙ so_far.parts;
-  took = Took-join stands so_far.done more a b c x y z so_far.took took;
+  took = Took-join turn stands so_far.done more a b c x y z so_far.took took;
 }
 
-pub TakenTo-all : {T : Type 0} (stands : T → Turn → List (List ℕ) → Type 0) (all left : List (List ℕ)) (a b : LiveRun T) (x y : List ℕ)
-    → TakenTo stands all left a b x y → left ≡ [] → Took stands all a b x y
-TakenTo-all stands all left a b x y so_far none =
+pub TakenTo-all : {T B : Type 0} (turn : B → Turn) (stands : T → B → List (List ℕ) → Type 0) (all left : List (List ℕ)) (a b : LiveRun T) (x y : List ℕ)
+    → TakenTo turn stands all left a b x y → left ≡ [] → Took turn stands all a b x y
+TakenTo-all turn stands all left a b x y so_far none =
     let whole : so_far.done ≡ all = sym (append-nil so_far.done) ∙ ap (λ (ls : List (List ℕ)). so_far.done ++ ls) (sym none) ∙ so_far.parts in
-    subst (λ (ls : List (List ℕ)). Took stands ls a b x y) whole so_far.took
+    subst (λ (ls : List (List ℕ)). Took turn stands ls a b x y) whole so_far.took
 
 -- the first of rows
 pub first_row : (longest : ℕ) (rest : List ℕ) (end : ℕ) (line behind : List ℕ) → ended_lines rest ≡ take end rest ∷ ended_lines (drop (end + 1) rest)
@@ -129,11 +129,11 @@ some_chunk [] x is = cc
 some_chunk (r ∷ rs) x is = omega arith
 
 -- what else a run has doesn't matter
-pub Took-from : {T : Type 0} (stands : T → Turn → List (List ℕ) → Type 0) (lines : List (List ℕ)) (old mid new : LiveRun T) (from to : List ℕ)
-    → mid.taker ≡ old.taker → mid.numbering ≡ old.numbering → Took stands lines mid new from to → Took stands lines old new from to
-Took-from stands lines old mid new from to taker numbering took turn before behind =
-    took turn before (record {
-      taken = subst (λ t. stands t turn before) (sym taker) behind.taken;
+pub Took-from : {T B : Type 0} (turn : B → Turn) (stands : T → B → List (List ℕ) → Type 0) (lines : List (List ℕ)) (old mid new : LiveRun T) (from to : List ℕ)
+    → mid.taker ≡ old.taker → mid.numbering ≡ old.numbering → Took turn stands lines mid new from to → Took turn stands lines old new from to
+Took-from turn stands lines old mid new from to taker numbering took by before behind =
+    took by before (record {
+      taken = subst (λ t. stands t by before) (sym taker) behind.taken;
       count = ap count_of numbering ∙ behind.count;
       sum = ap sum_in numbering ∙ behind.sum;
     })

@@ -2,6 +2,8 @@ pub mod Kept
 pub mod Told
 pub mod Head
 pub mod HeadSeen
+pub mod CutSeen
+pub mod HeadRows
 pub mod Live
 pub mod Protocol
 pub mod KeptRows

@@ -1,5 +1,5 @@
 -- A run over lines as the protocol sees it, a journal's records as its journal, and its items as bytes.
-use Rattle.std.specs.Prelude.{ℕ, List, [], ◌∷◌, ◌++◌, Bool, true, false, ◌&&◌, map, nat_eq}
+use Rattle.std.specs.Prelude.{ℕ, List, [], ◌∷◌, ◌++◌, Bool, true, false, ◌&&◌, length, map, nat_eq}
 use Rattle.wsm_sums.specs.Crc.{sum_behind}
 use Rattle.wsm_numbered.specs.Numbered.{numbered_line}
 use Rattle.wsm_journal.specs.Text.{Entry}
@@ -32,10 +32,10 @@ run_by turn = record {
 abbrev pub chunks_of : ℕ → List Entry → List (List (List ℕ))
 chunks_of longest chunks = map (λ e. read_lines longest e.rows) chunks
 
--- the head of a log that is begun stands for no line
-abbrev pub journal_by : ℕ → List Entry → Journal
-journal_by longest [] = nothing_kept
-journal_by longest (head ∷ chunks) = record { head = []; rows = 0; lines = 0; chunks = chunks_of longest chunks }
+-- records of which the head stands for these lines, the oldest first: for none where no line was cut
+abbrev pub journal_by : Turn → ℕ → List (List ℕ) → List Entry → Journal
+journal_by turn longest front [] = nothing_kept
+journal_by turn longest front (head ∷ chunks) = record { head = front; rows = length front; lines = length (told_for turn [] front); chunks = chunks_of longest chunks }
 
 -- the bytes of lines on their way, behind lines of which the sum is told
 abbrev pub items_text : (sum : ℕ) → List Item → List ℕ

@@ -2,7 +2,7 @@
 
 ghost use Rattle.std.specs.Prelude.{◌≡◌, drop, take, true, IfOk};
 ghost use Rattle.wsm_journal.specs.Text.{are_rows};
-ghost use Rattle.wsm_live.specs.Head.{head_row, is_headed, name_in};
+ghost use Rattle.wsm_live.specs.Head.{behind_row, head_row, is_headed, name_in, own_row};
 
 use itoa::Buffer;
 use std::alloc::{AllocError, Global};
@@ -67,15 +67,15 @@ fn written(alloc: Global, name: &[u8], sum: u32) -> Result<Vec<u8>, AllocError>
     Ok(row)
 }
 
-// What stands behind a place, or nothing.
-fn behind(bytes: &[u8], at: usize) -> &[u8]
+/// What stands behind a place, or nothing.
+pub fn behind(bytes: &[u8], at: usize) -> &[u8]
     ensures { result.now ≡ drop at bytes.now }
 {
     &bytes[at.min(bytes.len())..]
 }
 
-// What stands in front of a place.
-fn in_front(bytes: &[u8], at: usize) -> &[u8]
+/// What stands in front of a place.
+pub fn in_front(bytes: &[u8], at: usize) -> &[u8]
     ensures { result.now ≡ take at bytes.now }
 {
     &bytes[..at.min(bytes.len())]
@@ -94,4 +94,18 @@ pub fn name_in(rows: &[u8]) -> &[u8]
     ensures { result.now ≡ name_in rows.now }
 {
     in_front(behind(rows, FRONT), NAME_END - FRONT)
+}
+
+/// The row that a head begins with which begins with these rows, where it's headed by that row.
+pub fn own_row<'t>(head: &[u8], rows: &'t [u8]) -> &'t [u8]
+    ensures { result.now ≡ own_row head.now rows.now }
+{
+    in_front(rows, head.len())
+}
+
+/// What stands behind it.
+pub fn behind_row<'t>(head: &[u8], rows: &'t [u8]) -> &'t [u8]
+    ensures { result.now ≡ behind_row head.now rows.now }
+{
+    behind(rows, head.len())
 }

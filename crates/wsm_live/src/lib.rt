@@ -8,9 +8,11 @@
 #![tactic(auto)]
 
 pub use head::HeadRow;
-pub use live::{Live, LiveError};
+pub use live::{Front, Live, LiveError};
 pub use run::{LineTaker, LiveRun};
 
+mod cut_row;
+mod cuts;
 mod head;
 pub mod laws;
 mod live;

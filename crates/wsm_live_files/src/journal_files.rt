@@ -20,7 +20,8 @@ const JOURNAL: &str = "DIR/journal";
 
 const FOLDER: &str = "DIR";
 
-/// A journal's files in a folder of the file system: `journal`, and `journal.next`, which takes its name.
+/// A journal's files in a folder of the file system: `journal`, and `journal.next`, which takes its name. What one who was killed has
+/// left as `journal.next` is never read, and written over at the next start.
 #[derive(Drop)]
 pub struct JournalFiles<'r, R> {
     rt: &'r R,
@@ -93,6 +94,21 @@ impl<R> JournalFiles<'_, R> {
     }
 }
 
+impl<R: Files<File = File>> JournalFiles<'_, R> {
+    ghost use Rattle.wsm_journal.specs.Calls.{HasCause};
+
+    // What a call on the file came to that is to take the journal's name. One that failed gives its room on the disk back.
+    fn came_beside(&mut self, call: FileCall, outcome: io::Result<()>) -> Result<(), FolderError>
+        ensures { HasCause self.new.has_failed result }
+    {
+        if outcome.is_err() {
+            self.beside = None;
+            let _ = fs::remove_file(self.rt, self.next.as_str());
+        }
+        self.came_to(JOURNAL, call, outcome)
+    }
+}
+
 // Writes all bytes to a file that is open.
 fn written(file: &mut Option<File>, bytes: &[u8]) -> io::Result<()> {
     match file {
@@ -160,12 +176,12 @@ impl<R: Files<File = File> + AllocGlobal> JournalFolder for JournalFiles<'_, R> 
 
     fn write_next(&mut self, bytes: &[u8]) -> Result<(), FolderError> {
         let outcome = written(&mut self.beside, bytes);
-        self.came_to(JOURNAL, FileCall::Write, outcome)
+        self.came_beside(FileCall::Write, outcome)
     }
 
     fn sync_next(&mut self) -> Result<(), FolderError> {
         let outcome = synced(&self.beside);
-        self.came_to(JOURNAL, FileCall::Sync, outcome)
+        self.came_beside(FileCall::Sync, outcome)
     }
 
     fn rename(&mut self) -> Result<(), FolderError> {

@@ -31,6 +31,23 @@ fn keeps_a_journal(rt: HostRuntime) -> Result<(), Fail> {
     Ok(fs::remove_dir_all(&rt, "kept")?)
 }
 
+// What one who was killed has left beside the journal is passed over, and gone behind a start.
+#[test]
+fn passes_over_what_is_left_beside(rt: HostRuntime) -> Result<(), Fail> {
+    let _ = fs::remove_dir_all(&rt, "left");
+    let Ok(folder) = LiveFolder::hold(&rt, "left") else {
+        return Err(Fail::from("not held"));
+    };
+    fs::write(&rt, "left/journal.next", ":a\nat,0,3,1,")?;
+    let Ok((_, bytes)) = JournalFile::open(rt.alloc(), folder.journal()?) else {
+        return Err(Fail::from("not opened"));
+    };
+    assert!(rt; bytes.is_empty());
+    assert!(rt; fs::metadata(&rt, "left/journal.next").is_err());
+    assert!(rt; folder.journal_size().is_ok_and(|size| size == 0));
+    Ok(fs::remove_dir_all(&rt, "left")?)
+}
+
 // Where the journal can't be made it is told why.
 #[test]
 fn tells_why(rt: HostRuntime) -> Result<(), Fail> {

@@ -34,6 +34,17 @@ impl Numbering {
         }
     }
 
+    /// So many lines were handed out before, of which the sum is told.
+    pub fn behind(count: u64, sum: u32) -> Numbering
+        ensures count { count_of result ≡ count }
+        ensures sum { sum_in result ≡ sum }
+    {
+        Numbering {
+            count,
+            sum: Crc32::behind(sum),
+        }
+    }
+
     /// How many lines were handed out.
     pub fn count(&self) -> u64
         ensures { result ≡ count_of self.now }

@@ -85,6 +85,13 @@ impl Crc32 {
         Crc32 { sum: 0 }
     }
 
+    /// The sum of bytes that were added before, of which the sum is told.
+    pub fn behind(sum: u32) -> Self
+        ensures { result ≡ sum }
+    {
+        Crc32 { sum }
+    }
+
     /// Adds bytes behind those that were added.
     #[tactic(auto, unfolding(crate::specs::Crc::sum_behind))]
     pub fn add(&mut self, bytes: &[u8])

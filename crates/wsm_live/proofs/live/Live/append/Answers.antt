@@ -21,4 +21,4 @@ returns-clause-takes g c =
     let run = c.args.self.now.run in
     let text = c.args.text.now in
     let rows : c.deref-2.result.now ≡ rows_of (ended_lines text) = c.deref-2.ensures.value ∙ c.in_ok-count.ensures.rows in
-    subst (λ (ls : List (List ℕ)). Took g.T.LineTaker.stands ls run c.take.new.self c.args.out.now.items c.take.new.out.items) (ap (read_lines run.longest) rows ∙ kept_read run.longest text) c.in_ok-take.ensures.takes
+    subst (λ (ls : List (List ℕ)). Took g.T.LineTaker.turn g.T.LineTaker.stands ls run c.take.new.self c.args.out.now.items c.take.new.out.items) (ap (read_lines run.longest) rows ∙ kept_read run.longest text) c.in_ok-take.ensures.takes

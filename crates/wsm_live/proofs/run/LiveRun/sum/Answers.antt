@@ -2,4 +2,4 @@ use Rattle.std.proofs.Common.{◌∙◌}
 use Rattle.wsm_live.proofs.run.LiveRun.sum.Goals as goal
 
 pub returns : goal.returns
-returns g c = λ turn before behind. c.sum.ensures ∙ behind.sum
+returns g c = λ by before behind. c.sum.ensures ∙ behind.sum

@@ -19,7 +19,7 @@ pub loop-chunk-init : goal.loop-chunk-init
 loop-chunk-init g c =
     let old = c.args.self.now in
     record {
-      taken = TakenTo-none g.T.LineTaker.stands (chunk_lines old.longest (map entry_seen c.args.chunks.now)) old c.args.out.now.items;
+      taken = TakenTo-none g.T.LineTaker.turn g.T.LineTaker.stands (chunk_lines old.longest (map entry_seen c.args.chunks.now)) old c.args.out.now.items;
       longest = refl;
       grows = take-length c.args.out.now.items;
     }
@@ -28,7 +28,7 @@ pub returns-clause-takes : goal.returns-clause-takes
 returns-clause-takes g c =
     let old = c.args.self.now in
     let left = c.loop-chunk.left.now in
-    TakenTo-all g.T.LineTaker.stands (chunk_lines old.longest (map entry_seen c.args.chunks.now)) (chunk_lines old.longest (map entry_seen left)) old c.loop-chunk.self c.args.out.now.items c.loop-chunk.out.items
+    TakenTo-all g.T.LineTaker.turn g.T.LineTaker.stands (chunk_lines old.longest (map entry_seen c.args.chunks.now)) (chunk_lines old.longest (map entry_seen left)) old c.loop-chunk.self c.args.out.now.items c.loop-chunk.out.items
     c.loop-chunk.invariant.taken (no_chunk old.longest left c.in_default.ensures.value)
 
 pub loop-chunk-preserved : goal.loop-chunk-preserved
@@ -40,7 +40,7 @@ loop-chunk-preserved g c =
     let chunk = c.in-Some.chunk.now in
     let rest = c.rest_of-left.result.now in
     record {
-      taken = TakenTo-more g.T.LineTaker.stands (chunk_lines old.longest (map entry_seen c.args.chunks.now)) (chunk_lines old.longest (map entry_seen left)) (read_lines mid.longest chunk.rows.now) (chunk_lines old.longest (map entry_seen rest))
+      taken = TakenTo-more g.T.LineTaker.turn g.T.LineTaker.stands (chunk_lines old.longest (map entry_seen c.args.chunks.now)) (chunk_lines old.longest (map entry_seen left)) (read_lines mid.longest chunk.rows.now) (chunk_lines old.longest (map entry_seen rest))
           old mid new c.args.out.now.items c.loop-chunk.out.items c.take.new.out.items
           c.loop-chunk.invariant.taken (first_chunk old.longest mid.longest left rest chunk c.in-Some.ensures.value c.rest_of-left.ensures c.loop-chunk.invariant.longest) c.in_ok-take.ensures.takes;
       longest = c.take.ensures.longest ∙ c.loop-chunk.invariant.longest;
