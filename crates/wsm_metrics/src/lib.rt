@@ -9,9 +9,11 @@
 //! ```
 #![tactic(auto)]
 
+pub use measured::Measured;
 pub use metric::{Kind, Labelled, Metric, Values};
 pub use text::metrics_text;
 
+mod measured;
 mod metric;
 #[cfg(test)]
 mod tests;

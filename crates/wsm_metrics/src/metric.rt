@@ -34,3 +34,33 @@ pub struct Metric<'a> {
     pub kind: Kind,
     pub values: Values<'a>,
 }
+
+impl<'a> Metric<'a> {
+    ghost use Rattle.std.specs.Prelude.{◌≡◌};
+    ghost use Rattle.wsm_metrics.specs.declared.metric.Kind.TheVariants.{Counter, Gauge};
+    ghost use Rattle.wsm_metrics.specs.declared.metric.Values.TheVariants.{One};
+
+    /// A count that only rises.
+    pub fn counter(name: &'a str, help: &'a str, value: u64) -> Metric<'a>
+        ensures { result ≡ record { name = name.entry; help = help.entry; kind = Counter; values = One value } }
+    {
+        Metric {
+            name,
+            help,
+            kind: Kind::Counter,
+            values: Values::One(value),
+        }
+    }
+
+    /// A number that may fall.
+    pub fn gauge(name: &'a str, help: &'a str, value: u64) -> Metric<'a>
+        ensures { result ≡ record { name = name.entry; help = help.entry; kind = Gauge; values = One value } }
+    {
+        Metric {
+            name,
+            help,
+            kind: Kind::Gauge,
+            values: Values::One(value),
+        }
+    }
+}

@@ -112,8 +112,8 @@ fn locked<R: Files<File = File>>(rt: &R, name: &str) -> Result<File, ReplaceFaul
     }
 }
 
-// Removes a file, if it is there.
-fn remove<R: Files>(rt: &R, name: &str) -> Result<(), ReplaceFault> {
+/// Removes a file, if it is there.
+pub fn remove<R: Files>(rt: &R, name: &str) -> Result<(), ReplaceFault> {
     match fs::remove_file(rt, name) {
         Ok(()) => Ok(()),
         Err(error) if error.kind() == ErrorKind::NotFound => Ok(()),

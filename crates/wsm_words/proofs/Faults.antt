@@ -4,8 +4,8 @@ use Rattle.clap.specs.Words.{HasKind, IsAmong, Kinds, kind_of}
 use Rattle.clap.specs.declared.error.Error.{Error}
 use Rattle.clap.specs.declared.error.kind.ErrorKind.TheVariants.{OutOfMemory}
 use Rattle.wsm_words.specs.declared.job.Job.{Job}
-use Rattle.wsm_words.specs.declared.words.WordsRefusal.{WordsRefusal}
-use Rattle.wsm_words.specs.declared.words.WordsRefusal.TheVariants.{Words, Memory}
+use Rattle.wsm_words.specs.declared.refusal.WordsRefusal.{WordsRefusal}
+use Rattle.wsm_words.specs.declared.refusal.WordsRefusal.TheVariants.{Words, Memory}
 use Rattle.wsm_words.specs.Words.{AnswersFaults, IsByFault, IsMemory, Tells}
 
 -- want of memory is told as such

@@ -7,8 +7,8 @@ use Rattle.clap.specs.declared.error.kind.ErrorKind.TheVariants.{OutOfMemory}
 use Rattle.wsm_words.specs.declared.job.Agreement.{Agreement}
 use Rattle.wsm_words.specs.declared.job.Job.{Job}
 use Rattle.wsm_words.specs.declared.job.Job.TheVariants.{Run, Compile, Migrate, Verify, Explain, Deal, Rows, Keep, Watermarks, Live}
-use Rattle.wsm_words.specs.declared.words.WordsRefusal.{WordsRefusal}
-use Rattle.wsm_words.specs.declared.words.WordsRefusal.TheVariants.{Words, Memory}
+use Rattle.wsm_words.specs.declared.refusal.WordsRefusal.{WordsRefusal}
+use Rattle.wsm_words.specs.declared.refusal.WordsRefusal.TheVariants.{Words, Memory}
 
 -- a file that has to be named
 abbrev pub file_rule : Text → Rule
@@ -30,9 +30,11 @@ needed_rule name = record (new_rule name) { long = Some name; value_names = 1; r
 abbrev pub rows_rule : Rule
 rows_rule = record (new_rule (codes "rows")) { value_names = 1 }
 
--- run [--program] [--from SOURCE] QUERY [ROWS]
+-- run [--program] [--from SOURCE] [--metrics FILE] QUERY [ROWS]
 abbrev pub run_app : App
-run_app = with_rule (with_rule (with_rule (with_rule (new_app (codes "run")) (flag_rule (codes "program"))) (option_rule (codes "from"))) (file_rule (codes "query"))) rows_rule
+run_app =
+    with_rule (with_rule (with_rule (with_rule (with_rule (new_app (codes "run")) (flag_rule (codes "program"))) (option_rule (codes "from"))) (option_rule (codes "metrics")))
+    (file_rule (codes "query"))) rows_rule
 
 -- compile QUERY OUT
 abbrev pub compile_app : App
@@ -82,9 +84,9 @@ abbrev pub waiting_app : App
 waiting_app =
     with_rule (with_rule (with_rule (with_rule agreeing_app (option_rule (codes "forget"))) (option_rule (codes "room"))) (option_rule (codes "source"))) (option_rule (codes "once"))
 
--- and with [--last] QUERY [ROWS]
+-- and with [--last] [--metrics FILE] QUERY [ROWS]
 abbrev pub watermarks_app : App
-watermarks_app = with_rule (with_rule (with_rule waiting_app (flag_rule (codes "last"))) (file_rule (codes "query"))) rows_rule
+watermarks_app = with_rule (with_rule (with_rule (with_rule waiting_app (flag_rule (codes "last"))) (option_rule (codes "metrics"))) (file_rule (codes "query"))) rows_rule
 
 -- live [--program] --from SOURCE [--lost WHERE] [--health FILE] [--patience SECONDS]
 abbrev pub following_app : App
@@ -92,9 +94,9 @@ following_app =
     with_rule (with_rule (with_rule (with_rule (with_rule (new_app (codes "live")) (flag_rule (codes "program"))) (needed_rule (codes "from"))) (option_rule (codes "lost")))
     (option_rule (codes "health"))) (option_rule (codes "patience"))
 
--- and with DIR QUERY LOG
+-- and with [--cut BYTES] DIR QUERY LOG
 abbrev pub live_app : App
-live_app = with_rule (with_rule (with_rule following_app (file_rule (codes "dir"))) (file_rule (codes "query"))) (file_rule (codes "log"))
+live_app = with_rule (with_rule (with_rule (with_rule following_app (option_rule (codes "cut"))) (file_rule (codes "dir"))) (file_rule (codes "query"))) (file_rule (codes "log"))
 
 -- the program's command, which wants a subcommand and tells its version
 abbrev pub required_app : App
@@ -159,7 +161,8 @@ IsAgreement entries a =
 abbrev pub IsJob : Text → List Row → Job → Type 0
 IsJob name entries (Run job) =
     (name ≡ codes "run") × SaysFlag (one_of (codes "program") entries) job.program
-    × HasOption entries (codes "from") job.from × Names entries (codes "query") job.query × NamesRows entries job.rows
+    × HasOption entries (codes "from") job.from × HasOption entries (codes "metrics") job.metrics
+    × Names entries (codes "query") job.query × NamesRows entries job.rows
 IsJob name entries (Compile job) = (name ≡ codes "compile") × Names entries (codes "query") job.query × Names entries (codes "out") job.out
 IsJob name entries (Migrate job) = (name ≡ codes "migrate") × Names entries (codes "program") job.program × Names entries (codes "out") job.out
 IsJob name entries (Verify job) =
@@ -181,10 +184,11 @@ IsJob name entries (Keep job) =
 IsJob name entries (Watermarks job) =
     (name ≡ codes "watermarks") × SaysFlag (one_of (codes "program") entries) job.program × IsAgreement entries job.agreement
     × HasOption entries (codes "source") job.source × HasOption entries (codes "once") job.once × SaysFlag (one_of (codes "last") entries) job.last
-    × Names entries (codes "query") job.query × NamesRows entries job.rows
+    × HasOption entries (codes "metrics") job.metrics × Names entries (codes "query") job.query × NamesRows entries job.rows
 IsJob name entries (Live job) =
     (name ≡ codes "live") × SaysFlag (one_of (codes "program") entries) job.program × Names entries (codes "from") job.from
     × HasOption entries (codes "lost") job.lost × HasOption entries (codes "health") job.health × HasOption entries (codes "patience") job.patience
+    × HasOption entries (codes "cut") job.cut
     × Names entries (codes "dir") job.dir × Names entries (codes "query") job.query × Names entries (codes "log") job.log
 
 -- a job is that of the subcommand and its entries

@@ -48,6 +48,10 @@ pub const IS_PROGRAM: &str = "QUERY is a program that `wsm compile` wrote";
 /// What the option for a source says.
 pub const FROM: &str = "ROWS is a log, whose lines are read by the source of this file";
 
+/// What the option for what is counted says.
+pub const METRICS: &str =
+    "Write at the end to this file what was counted, as text that Prometheus reads";
+
 /// What is run.
 pub const QUERY_OR_PROGRAM: &str = "The file of the query's text, or of the program";
 
@@ -87,7 +91,17 @@ writes
   end,3,3,0,0,1
 
 since the last line raises the watermark to 60, in front of its own record. What is refused is told
-by the number of its line.";
+by the number of its line.
+
+With --metrics counts.prom what was counted is written to that file at the end, in the place of what
+was there. Of the log above it has
+
+  # HELP wsm_lines_total Lines or rows that were read.
+  # TYPE wsm_lines_total counter
+  wsm_lines_total 3
+
+and so on: records that were admitted, late and refused, panes, and of a log doubles, records that told
+no time, how many waited at the end, and how many clocks speak and have to agree.";
 
 /// What the command `compile` does.
 pub const COMPILE: &str = "Writes the program of a query to a file, without judging it.";
@@ -393,6 +407,10 @@ pub const HEALTH: &str =
 pub const PATIENCE: &str =
     "A log that was renamed has ended once nothing came for so many seconds; 3 where it is left out";
 
+/// What the option for cuts says.
+pub const CUT: &str =
+    "Cut the journal once it has grown by so many bytes, or an hour has gone; 16777216 where it is left out";
+
 /// An example of the command `live`.
 pub const LIVE_EXAMPLE: &str =
     "With the query of `wsm --help`, the source and the log of `wsm run --help`,
@@ -412,7 +430,9 @@ counts from 1 on, and SUM is the CRC-32 of all lines up to this one. They are th
 A line of the log is on the disk in DIR before anything is written for it. Killed at any moment, also by
 a power cut, and begun anew, it writes the lines with their numbers again, so who takes them passes over
 those that he has. He may tell in DIR/taken what he has surely on his disk, as NAME,NUMBER,SUM of the
-last line: he writes it beside, as DIR/taken.next, and renames it.
+last line: he writes it beside, as DIR/taken.next, and renames it. Once all who tell so have all lines,
+DIR is cut in its place to what lines to come need, by the time and the size of --cut: what was taken
+isn't written again then, and the first line tells how many those are.
 
 It ends by itself with status 5, 6, 7 or 8, behind which it may be begun anew, or with 2, 3, 4 or 9,
 where somebody must look: DIR is of another query or source, or is damaged, or lines that were read

@@ -50,6 +50,8 @@ pub struct RunJob {
     pub program: bool,
     /// The file of the source by which the lines of a log are read; none where rows are run over.
     pub from: Option<String>,
+    /// The file of what is counted, written at the end; none where none is asked for.
+    pub metrics: Option<String>,
     /// The file of the query or the program.
     pub query: String,
     /// The file of the rows or of the log; standard input where none is named, or `-`.
@@ -152,6 +154,8 @@ pub struct WatermarksJob {
     pub once: Option<String>,
     /// Whether a watermark ends the rows that completes all windows.
     pub last: bool,
+    /// The file of what is counted, written at the end; none where none is asked for.
+    pub metrics: Option<String>,
     /// The file of the query or the program.
     pub query: String,
     /// The file of the rows; standard input where none is named, or `-`.
@@ -186,6 +190,8 @@ pub struct LiveJob {
     pub health: Option<String>,
     /// For how many seconds nothing comes to a log that has ended; some where it isn't said.
     pub patience: Option<String>,
+    /// By how many bytes the journal grows until it is cut; some where it isn't said.
+    pub cut: Option<String>,
     /// The folder of the run.
     pub dir: String,
     /// The file of the query or the program.

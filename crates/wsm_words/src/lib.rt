@@ -19,9 +19,14 @@ pub use job::{
     Agreement, CompileJob, DealJob, ExplainJob, Job, KeepJob, LiveJob, MigrateJob, RowsJob, RunJob,
     VerifyJob, WatermarksJob,
 };
-pub use words::{WordsRefusal, command_of};
+pub use refusal::WordsRefusal;
+pub use words::command_of;
 
+mod arguments;
+mod commands;
+mod entries;
 mod help;
 mod job;
+mod refusal;
 mod version;
 mod words;

@@ -17,39 +17,39 @@ fn job(alloc: Global, words: &[&str]) -> Result<String, Fail> {
 const JOBS: [(&[&str], &str); 21] = [
     (
         &["wsm", "run", "q"],
-        "Run(RunJob { program: false, from: None, query: \"q\", rows: None })",
+        "Run(RunJob { program: false, from: None, metrics: None, query: \"q\", rows: None })",
     ),
     (
         &["wsm", "run", "q", "r"],
-        "Run(RunJob { program: false, from: None, query: \"q\", rows: Some(\"r\") })",
+        "Run(RunJob { program: false, from: None, metrics: None, query: \"q\", rows: Some(\"r\") })",
     ),
     (
         &["wsm", "run", "--program", "p"],
-        "Run(RunJob { program: true, from: None, query: \"p\", rows: None })",
+        "Run(RunJob { program: true, from: None, metrics: None, query: \"p\", rows: None })",
     ),
     (
         &["wsm", "run", "p", "r", "--program"],
-        "Run(RunJob { program: true, from: None, query: \"p\", rows: Some(\"r\") })",
+        "Run(RunJob { program: true, from: None, metrics: None, query: \"p\", rows: Some(\"r\") })",
     ),
     (
         &["wsm", "run", "--", "--program"],
-        "Run(RunJob { program: false, from: None, query: \"--program\", rows: None })",
+        "Run(RunJob { program: false, from: None, metrics: None, query: \"--program\", rows: None })",
     ),
     (
         &["wsm", "run", "q", "-"],
-        "Run(RunJob { program: false, from: None, query: \"q\", rows: None })",
+        "Run(RunJob { program: false, from: None, metrics: None, query: \"q\", rows: None })",
     ),
     (
         &["wsm", "run", "-", "./-"],
-        "Run(RunJob { program: false, from: None, query: \"-\", rows: Some(\"./-\") })",
+        "Run(RunJob { program: false, from: None, metrics: None, query: \"-\", rows: Some(\"./-\") })",
     ),
     (
-        &["wsm", "run", "--from", "s", "q", "l"],
-        "Run(RunJob { program: false, from: Some(\"s\"), query: \"q\", rows: Some(\"l\") })",
+        &["wsm", "run", "--from", "s", "--metrics", "m", "q", "l"],
+        "Run(RunJob { program: false, from: Some(\"s\"), metrics: Some(\"m\"), query: \"q\", rows: Some(\"l\") })",
     ),
     (
         &["wsm", "run", "p", "--from=-", "--program"],
-        "Run(RunJob { program: true, from: Some(\"-\"), query: \"p\", rows: None })",
+        "Run(RunJob { program: true, from: Some(\"-\"), metrics: None, query: \"p\", rows: None })",
     ),
     (
         &["wsm", "compile", "q", "o"],
