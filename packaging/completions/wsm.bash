@@ -8,13 +8,13 @@ _wsm() {
     fi
     case $command:$word in
         help:*) mapfile -t COMPREPLY < <(compgen -W 'run compile migrate verify explain deal rows keep watermarks live' -- "$word") && return ;;
-        run:-*) mapfile -t COMPREPLY < <(compgen -W '--program --from --help' -- "$word") && return ;;
+        run:-*) mapfile -t COMPREPLY < <(compgen -W '--program --from --metrics --help' -- "$word") && return ;;
         verify:-*) mapfile -t COMPREPLY < <(compgen -W '--query --from --help' -- "$word") && return ;;
         explain:-*) mapfile -t COMPREPLY < <(compgen -W '--json --query --help' -- "$word") && return ;;
         deal:-*) mapfile -t COMPREPLY < <(compgen -W '--keys-of --help' -- "$word") && return ;;
         keep:-*) mapfile -t COMPREPLY < <(compgen -W '--program --taken --most --help' -- "$word") && return ;;
-        watermarks:-*) mapfile -t COMPREPLY < <(compgen -W '--program --agree --bound --step --forget --room --source --once --last --help' -- "$word") && return ;;
-        live:-*) mapfile -t COMPREPLY < <(compgen -W '--program --from --lost --health --patience --help' -- "$word") && return ;;
+        watermarks:-*) mapfile -t COMPREPLY < <(compgen -W '--program --agree --bound --step --forget --room --source --once --last --metrics --help' -- "$word") && return ;;
+        live:-*) mapfile -t COMPREPLY < <(compgen -W '--program --from --lost --health --patience --cut --help' -- "$word") && return ;;
         rows:-*) mapfile -t COMPREPLY < <(compgen -W '--program --help' -- "$word") && return ;;
         *:-*) mapfile -t COMPREPLY < <(compgen -W '--help' -- "$word") && return ;;
     esac

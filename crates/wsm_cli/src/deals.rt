@@ -1,6 +1,7 @@
 //! What dealing does with files and standard input.
 
 use crate::files::{end_of, read, write_all};
+use crate::numbers::number_of;
 use crate::stop::{Stop, WordsFault};
 use std::alloc::{AllocError, Global};
 use std::fs::{self, File};
@@ -34,15 +35,6 @@ pub fn deal_or_tell<R: Files + AllocGlobal + Input + Print>(
 fn shares_of<R: Files + AllocGlobal>(rt: &R, keys: &String, parts: &String) -> Result<Shares, End> {
     let text = read(rt, keys)?;
     Ok(Shares::for_parts(rt.alloc(), &text, number_of(parts))?)
-}
-
-/// The number that a word writes in digits alone.
-pub fn number_of(word: &String) -> Option<usize> {
-    if word.as_bytes().iter().all(|byte| byte.is_ascii_digit()) {
-        word.as_str().parse::<usize>().ok()
-    } else {
-        None
-    }
 }
 
 // Writes the clause of a part's keys.

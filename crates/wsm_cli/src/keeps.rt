@@ -1,8 +1,8 @@
 //! What cutting rows does with files, standard input and standard output.
 
-use crate::deals::number_of;
 use crate::files::{input_of, read};
-use crate::stop::{RowsFault, Stop, WordsFault};
+use crate::numbers::number_in;
+use crate::stop::{RowsFault, Stop};
 use crate::sums::{sum_of_program, sum_of_text};
 use std::alloc::Global;
 use std::fs::File;
@@ -69,17 +69,6 @@ pub fn keep<R: Files<File = File> + AllocGlobal + Input + Print + Eprint>(
         Some(rows) => keep_file(rt, wanted, rows)?,
     }
     Ok(true)
-}
-
-// The number that an option has, if it is given.
-fn number_in(word: Option<&String>, option: &'static str) -> Result<Option<u64>, Stop> {
-    match word {
-        None => Ok(None),
-        Some(word) => match number_of(word) {
-            Some(number) => Ok(Some(number as u64)),
-            None => Err(Stop::Words(WordsFault::NoNumber(option))),
-        },
-    }
 }
 
 // What is asked for by the words and the file of the query.

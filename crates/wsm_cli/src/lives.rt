@@ -2,8 +2,8 @@
 
 ghost use Rattle.wsm_turns.specs.Clocks.{AreClocks};
 
-use crate::deals::number_of;
 use crate::files::{input_of, read};
+use crate::numbers::number_or;
 use crate::sources::{Bound, bytes_of_source, source_for};
 use crate::stop::{Stop, WordsFault};
 use crate::sums::sum_of_live;
@@ -20,12 +20,16 @@ use wsm_words::LiveJob;
 // For how many seconds nothing comes to a log that has ended, where it isn't said.
 const PATIENCE: u64 = 3;
 
+// By how many bytes the journal grows until it is cut, where it isn't said.
+const CUT: u64 = 16_777_216;
+
 // What a run is made of, before anything is touched.
 struct Ready {
     verified: Verified,
     bound: Bound,
     sum: u32,
     patience: u64,
+    cut: u64,
     goes_on: bool,
 }
 
@@ -37,6 +41,7 @@ impl Drop for Ready {
             bound: _,
             sum: _,
             patience: _,
+            cut: _,
             goes_on: _,
         } = self;
     }
@@ -47,7 +52,8 @@ pub fn live<R: Files<File = File> + AllocGlobal + Print + Eprint + Clock + Clone
     rt: &R,
     job: &LiveJob,
 ) -> Result<bool, Stop> {
-    let patience = patience_of(job.patience.as_ref())?;
+    let patience = number_or(job.patience.as_ref(), "--patience", PATIENCE)?;
+    let cut = number_or(job.cut.as_ref(), "--cut", CUT)?;
     let goes_on = goes_on_of(job.lost.as_ref())?;
     let bytes = read(rt, &job.query)?;
     let verified = accepted_of(rt.alloc(), input_of(job.program, &bytes))?;
@@ -59,6 +65,7 @@ pub fn live<R: Files<File = File> + AllocGlobal + Print + Eprint + Clock + Clone
         bound,
         sum,
         patience,
+        cut,
         goes_on,
     };
     ready.follow(rt, job)
@@ -78,6 +85,7 @@ impl Ready {
             bound,
             sum,
             patience,
+            cut,
             goes_on,
         } = self;
         let Bound { source, clocks } = bound;
@@ -87,6 +95,7 @@ impl Ready {
             log: job.log.as_str(),
             health: job.health.as_ref().map(|file| file.as_str()),
             patience: Duration::from_secs(patience),
+            cut,
             goes_on,
             sum,
             longest,
@@ -94,17 +103,6 @@ impl Ready {
         let run = live_run(rt.alloc(), verified, source, clocks)?;
         follow(rt, &settings, run)?;
         Ok(true)
-    }
-}
-
-// For how many seconds nothing comes to a log that has ended.
-fn patience_of(word: Option<&String>) -> Result<u64, Stop> {
-    match word {
-        None => Ok(PATIENCE),
-        Some(word) => match number_of(word) {
-            Some(number) => Ok(number as u64),
-            None => Err(Stop::Words(WordsFault::NoNumber("--patience"))),
-        },
     }
 }
 

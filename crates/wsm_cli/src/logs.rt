@@ -2,8 +2,10 @@
 
 ghost use Rattle.wsm_turns.specs.Clocks.{AreClocks};
 
+use crate::counting::Counting;
 use crate::counts::Teller;
 use crate::files::{accepted, end_of};
+use crate::metrics::Ran;
 use crate::progress::Watched;
 use crate::sources::{Bound, source_for};
 use crate::stop::Stop;
@@ -16,7 +18,7 @@ use wsm_lines::Source;
 use wsm_log_rows::write_rows;
 use wsm_log_run::{end_of_log, run_log};
 use wsm_rules::Verified;
-use wsm_words::RowsJob;
+use wsm_words::{RowsJob, RunJob};
 
 // An accepted program, and the source by which the lines of its log are read.
 struct Ready {
@@ -35,16 +37,18 @@ impl Drop for Ready {
 }
 
 impl Ready {
-    // Runs the program over a log.
+    // Runs the program over a log. What is written is counted, where that is asked for.
     fn run<R: AllocGlobal + Print + Eprint, I: Read + Drop>(
         self,
         rt: &R,
         log: I,
-    ) -> Result<bool, End>
+        is_counted: bool,
+    ) -> Result<Ran, End>
         requires { AreClocks self.bound.clocks }
     {
         let Ready { verified, bound } = self;
-        let mut output = Guarded::new(io::writer(rt));
+        let writer = Counting::new(rt.alloc(), io::writer(rt), is_counted);
+        let mut output = Guarded::new(writer);
         let mut teller = Teller::new(rt);
         let end = run_log(
             rt.alloc(),
@@ -56,7 +60,11 @@ impl Ready {
             &mut teller,
         )?;
         teller.tell(end.counts);
-        Ok(true)
+        Ok(Ran {
+            totals: end.totals,
+            counts: Some(end.counts),
+            lines: output.into_writer().into_lines()?,
+        })
     }
 }
 
@@ -65,16 +73,17 @@ pub fn run_from<R: Files + AllocGlobal + Input + Print + Eprint + Clock>(
     rt: &R,
     verified: Verified,
     source: &String,
-    log: Option<&String>,
+    job: &RunJob,
     is_looked_at: bool,
-) -> Result<bool, Stop> {
+) -> Result<Ran, Stop> {
+    let is_counted = job.metrics.is_some();
     let bound = source_for(rt, source, &verified)?;
     let ready = Ready { verified, bound };
-    match log {
-        None => Ok(ready.run(rt, rt.reader())?),
+    match &job.rows {
+        None => Ok(ready.run(rt, rt.reader(), is_counted)?),
         Some(log) => {
             let log = opened(rt, log, is_looked_at)?;
-            Ok(ready.run(rt, log)?)
+            Ok(ready.run(rt, log, is_counted)?)
         }
     }
 }

@@ -5,6 +5,7 @@
 //! the words' refusal has `clap`'s own text.
 #![tactic(auto)]
 
+mod counting;
 mod counts;
 mod deals;
 mod files;
@@ -13,6 +14,8 @@ mod judging;
 mod keeps;
 mod lives;
 mod logs;
+mod metrics;
+mod numbers;
 mod programs;
 mod progress;
 mod runs;

@@ -1,7 +1,9 @@
 //! Runs of a query or a program.
 
+use crate::counting::Counting;
 use crate::files::{accepted, end_of, input_of, read};
 use crate::logs::run_from;
+use crate::metrics::{Ran, write_run};
 use crate::stop::Stop;
 use std::fs::File;
 use std::io::{self, Eprint, Read};
@@ -10,28 +12,30 @@ use std::time::Clock;
 use wsm::{End, Guarded, Rows, run_input};
 use wsm_words::RunJob;
 
-/// Runs a query or a program over rows, or over a log by a source.
-pub fn run<R: Files + AllocGlobal + Input + Print + Eprint + Clock>(
+/// Runs a query or a program over rows, or over a log by a source, and writes what was counted where that is asked for.
+pub fn run<R: Files<File = File> + AllocGlobal + Input + Print + Eprint + Clock>(
     rt: &R,
     job: &RunJob,
     is_looked_at: bool,
 ) -> Result<bool, Stop> {
-    match &job.from {
-        None => Ok(run_rows(rt, job)?),
+    let ran = match &job.from {
+        None => run_rows(rt, job)?,
         Some(source) => {
             let verified = accepted(rt, job.program, &job.query)?;
-            run_from(rt, verified, source, job.rows.as_ref(), is_looked_at)
+            run_from(rt, verified, source, job, is_looked_at)?
         }
-    }
+    };
+    write_run(rt, job.metrics.as_ref(), &ran)?;
+    Ok(true)
 }
 
 // Runs a query or a program over a file of rows, or over standard input.
-fn run_rows<R: Files + AllocGlobal + Input + Print>(rt: &R, job: &RunJob) -> Result<bool, End> {
+fn run_rows<R: Files + AllocGlobal + Input + Print>(rt: &R, job: &RunJob) -> Result<Ran, End> {
     let query = read(rt, &job.query)?;
     match &job.rows {
-        None => run_over(rt, job.program, &query, rt.reader()),
+        None => run_over(rt, job, &query, rt.reader()),
         Some(rows) => match File::open(rt, rows.as_str()) {
-            Ok(rows) => run_over(rt, job.program, &query, rows),
+            Ok(rows) => run_over(rt, job, &query, rows),
             Err(error) => Err(end_of(&error, End::ReadFailed)),
         },
     }
@@ -39,12 +43,18 @@ fn run_rows<R: Files + AllocGlobal + Input + Print>(rt: &R, job: &RunJob) -> Res
 
 fn run_over<R: AllocGlobal + Print, I: Read + Drop>(
     rt: &R,
-    program: bool,
+    job: &RunJob,
     query: &[u8],
     rows: I,
-) -> Result<bool, End> {
-    let mut rows = Rows::new(rt.alloc(), rows);
-    let mut output = Guarded::new(io::writer(rt));
-    run_input(rt.alloc(), input_of(program, query), &mut rows, &mut output)?;
-    Ok(true)
+) -> Result<Ran, End> {
+    let alloc = rt.alloc();
+    let mut rows = Rows::new(alloc, rows);
+    let writer = Counting::new(alloc, io::writer(rt), job.metrics.is_some());
+    let mut output = Guarded::new(writer);
+    let totals = run_input(alloc, input_of(job.program, query), &mut rows, &mut output)?;
+    Ok(Ran {
+        totals,
+        counts: None,
+        lines: output.into_writer().into_lines()?,
+    })
 }

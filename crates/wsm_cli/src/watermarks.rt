@@ -4,8 +4,9 @@ ghost use Rattle.std.specs.Prelude.{IfOk};
 ghost use Rattle.wsm_turns.specs.Clocks.{AreClocks};
 
 use crate::counts::Teller;
-use crate::deals::number_of;
 use crate::files::{accepted, end_of};
+use crate::metrics::write_rows;
+use crate::numbers::{number_of, number_or};
 use crate::stop::{Stop, WordsFault};
 use std::alloc::{AllocError, Global};
 use std::fs::File;
@@ -19,8 +20,9 @@ use wsm_rules::Verified;
 use wsm_turns::{Clocks, clocks_of};
 use wsm_words::{Agreement, WatermarksJob};
 
-/// Writes the rows of a file, or of standard input, with watermarks among them, and tells what was odd.
-pub fn follow<R: Files + AllocGlobal + Input + Print + Eprint>(
+/// Writes the rows of a file, or of standard input, with watermarks among them, tells what was odd, and writes what was
+/// counted where that is asked for.
+pub fn follow<R: Files<File = File> + AllocGlobal + Input + Print + Eprint>(
     rt: &R,
     job: &WatermarksJob,
 ) -> Result<bool, Stop> {
@@ -33,6 +35,7 @@ pub fn follow<R: Files + AllocGlobal + Input + Print + Eprint>(
         },
     };
     tell(rt, totals);
+    write_rows(rt, job.metrics.as_ref(), totals)?;
     Ok(true)
 }
 
@@ -102,17 +105,6 @@ fn place_of(cell: Option<&String>) -> Result<Option<usize>, Stop> {
         Some(word) => match number_of(word) {
             Some(cell) if FIRST_PLACE < cell => Ok(Some(cell - 1)),
             _ => Err(Stop::Words(WordsFault::NoCell)),
-        },
-    }
-}
-
-// The number of an option, or what it is where it is left out.
-fn number_or(word: Option<&String>, option: &'static str, default: u64) -> Result<u64, Stop> {
-    match word {
-        None => Ok(default),
-        Some(word) => match number_of(word) {
-            Some(number) => Ok(number as u64),
-            None => Err(Stop::Words(WordsFault::NoNumber(option))),
         },
     }
 }

@@ -2,10 +2,13 @@
 //!
 //! [`follow`] holds DIR, opens its journal, hands out what it has, and then goes on with the log: each turn's lines are in the
 //! journal, on the disk, before they are taken, and what is written for them is handed out before the next turn. While nothing comes
-//! it sleeps. Meanwhile it looks at what sinks told and writes what the run has come to.
+//! it sleeps. Meanwhile it looks at what sinks told and writes what the run has come to. Once the journal has grown by as much as
+//! [`Settings::cut`] says, and all sinks that told have all lines that were handed out, it is cut: a head takes the place of all its
+//! records, and lines are numbered on.
 //!
-//! What a file has no clause can say: of these calls it is proved that they are safe. `trials/live` tries what they do. The parts
-//! that it puts together have their clauses: `wsm_follow`, `wsm_journal` and `wsm_live`.
+//! What a file has no clause can say: of these calls it is proved that they are safe. `trials/live` tries what they do. When a journal
+//! is cut, and which sinks can be served, is decided over values, and has its clauses; so have the parts that are put together:
+//! `wsm_follow`, `wsm_journal` and `wsm_live`.
 #![tactic(auto)]
 
 pub use settings::Settings;
@@ -13,7 +16,7 @@ pub use stop::{LiveStop, SinkFault};
 pub use turns::follow;
 
 mod begin;
-mod counts;
+mod cuts;
 mod health;
 mod numbered;
 mod settings;

@@ -1,5 +1,9 @@
 //! What stands in numbered lines, `NUMBER,SUM,LINE`.
 
+use memchr::memchr_iter;
+use std::alloc::AllocError;
+use wsm_row_counts::Counts;
+
 /// The number, the sum and the rest of a numbered line.
 pub fn parts_of(line: &str) -> Option<(u64, u32, &str)> {
     let (number, rest) = line.split_once(",")?;
@@ -23,5 +27,22 @@ pub fn sum_at(lines: &[u8], number: u64) -> Option<u32> {
 
 /// How many lines end in a text.
 pub fn count_lines(text: &[u8]) -> u64 {
-    text.iter().filter(|byte| **byte == b'\n').count() as u64
+    memchr_iter(b'\n', text).count() as u64
+}
+
+/// Counts the rows that stand in numbered lines.
+///
+/// # Errors
+///
+/// Memory was refused.
+pub fn count_rows(lines: &[u8], counts: &mut Counts) -> Result<(), AllocError> {
+    for line in lines.split(|byte| *byte == b'\n') {
+        let Ok(text) = str::from_utf8(line) else {
+            continue;
+        };
+        if let Some((_, _, row)) = parts_of(text) {
+            counts.add(row)?;
+        }
+    }
+    Ok(())
 }

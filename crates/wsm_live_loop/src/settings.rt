@@ -19,4 +19,6 @@ pub struct Settings<'s> {
     pub sum: u32,
     /// Of a line as many bytes are wanted.
     pub longest: usize,
+    /// The journal is cut once it has grown by so many bytes since the last cut, or the start.
+    pub cut: u64,
 }

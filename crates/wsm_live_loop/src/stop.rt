@@ -46,6 +46,8 @@ pub enum SinkFault {
     OtherRun,
     /// It has more lines than were handed out.
     Ahead,
+    /// It has fewer lines than are cut from the journal, so those that it lacks can't be handed out.
+    Behind,
     /// Its lines are others.
     OtherLines,
 }
@@ -59,6 +61,8 @@ impl fmt::Display for SinkFault {
                 "is of another DIR: give the sink of this one a table of its own, or that DIR",
             SinkFault::Ahead =>
                 "has more lines than were handed out: DIR is older than what the sink took, so put the newer one back",
+            SinkFault::Behind =>
+                "lacks lines that are cut from DIR/journal: its table has lost rows, or is another one, so put the table back, or begin anew with another DIR",
             SinkFault::OtherLines =>
                 "has other lines than were handed out: give the sink of this DIR a table of its own",
         })

@@ -1,9 +1,9 @@
 //! The turns of a live run.
 
 use crate::begin::{LogPlace, PAUSE, begin_text, follower_at, opened};
-use crate::counts::Counts;
+use crate::cuts::{Cuts, seconds_since};
 use crate::health::Health;
-use crate::numbered::count_lines;
+use crate::numbered::{count_lines, count_rows};
 use crate::settings::Settings;
 use crate::sinks::{Handed, least_taken};
 use crate::stop::{LiveStop, stop_of};
@@ -14,14 +14,24 @@ use std::rt::Files;
 use std::thread;
 use std::time::{Clock, Duration, Instant, SystemTime, UNIX_EPOCH};
 use wsm_follow::{Folder, FolderFault as LogFault, Follower, LogFolder, Lost, Turn, beginning};
-use wsm_journal::is_position;
-use wsm_live::{LineTaker, Live, LiveError, LiveRun};
+use wsm_journal::{JournalError, ReplaceError, is_position};
+use wsm_live::{Front, LineTaker, Live, LiveError, LiveRun};
 use wsm_live_files::{FileFault, FolderFault, JournalFiles, LiveFolder, RunName, put_health};
+use wsm_metrics::Measured;
+use wsm_row_counts::Counts;
 
 // After how many seconds it looks at what sinks told, and renews what monitors read.
 const LOOK: u64 = 1;
 
 const RENEW: u64 = 5;
+
+// For how many looks at most it waits for sinks before a cut, and for how many milliseconds before each. Where that was in vain
+// it doesn't wait again for so many seconds.
+const WAITS: u64 = 40;
+
+const WAIT: u64 = 50;
+
+const REST: u64 = 20;
 
 // Why the turns ended.
 #[derive(Drop)]
@@ -46,6 +56,12 @@ impl From<LiveError> for Halt {
 impl From<AllocError> for Halt {
     fn from(_error: AllocError) -> Halt {
         Halt::Stop(LiveStop::Memory)
+    }
+}
+
+impl From<ReplaceError> for Halt {
+    fn from(error: ReplaceError) -> Halt {
+        Halt::Journal(LiveError::from(JournalError::from(error)))
     }
 }
 
@@ -78,8 +94,11 @@ struct Following<'s, 'r, R> {
     counts: Counts,
     lines: u64,
     handed: u64,
-    // How many lines the sink has that is furthest behind.
-    taken: u64,
+    // How many lines the sink has that is furthest behind, if one told.
+    taken: Option<u64>,
+    // The lines that are cut, and when the journal is cut.
+    front: Front,
+    cuts: Cuts,
     synced: u64,
     // Whether it was told that what monitors read can't be written.
     is_unwell: bool,
@@ -87,6 +106,8 @@ struct Following<'s, 'r, R> {
     came: Option<Instant>,
     look: Option<Instant>,
     renew: Option<Instant>,
+    // When it waits for sinks again.
+    wait: Option<Instant>,
 }
 
 /// Follows a log: hands out on standard output what its lines come to, each with its number, as long as nothing stops it.
@@ -97,7 +118,7 @@ struct Following<'s, 'r, R> {
 pub fn follow<R, T>(rt: &R, settings: &Settings<'_>, run: LiveRun<T>) -> Result<(), LiveStop>
 where
     R: Files<File = File> + AllocGlobal + Print + Eprint + Clock + Clone + Drop,
-    T: LineTaker,
+    T: LineTaker + Measured,
 {
     let Some(place) = LogPlace::of(settings.log) else {
         return Err(LiveStop::NoLog);
@@ -148,49 +169,64 @@ where
             counts: Counts::new(rt.alloc()),
             lines: 0,
             handed: 0,
-            taken: 0,
+            taken: None,
+            front: Front { count: 0, sum: 0 },
+            cuts: Cuts::new(settings.cut, 0, None),
             synced: 0,
             is_unwell: false,
             came: None,
             look: None,
             renew: None,
+            wait: None,
         })
     }
 
     // Hands out what the journal has, and then goes on with the log.
-    fn run<T: LineTaker>(&mut self, live: &mut Live<JournalFiles<'r, R>, T>) -> Result<(), Halt> {
+    fn run<T: LineTaker + Measured>(
+        &mut self,
+        live: &mut Live<JournalFiles<'r, R>, T>,
+    ) -> Result<(), Halt> {
         let name = str::from_utf8(live.name()).unwrap_or("");
-        self.begin(name, live.run().count())?;
+        self.begin(name, live.front(), live.run().count())?;
         for _ in 0..u64::MAX {
             if !self.turn(live)? {
                 thread::sleep(self.rt, Duration::from_millis(PAUSE));
             }
-            self.look_round()?;
+            self.look_round(live)?;
         }
         Ok(())
     }
 
-    // Hands out the run's name, and all that the journal has, where it is what sinks told.
-    fn begin(&mut self, name: &str, count: u64) -> Result<(), LiveStop> {
+    // Hands out the run's name and how many lines are cut, and all that the journal has behind them, where it is what sinks told.
+    fn begin(&mut self, name: &str, front: Front, count: u64) -> Result<(), LiveStop> {
         self.name = RunName::of(name);
-        let handed = Handed {
-            name: self.name,
-            count,
-            lines: Some(&self.out),
-        };
+        self.front = front;
+        self.handed = count;
         let all = self.folder.taken()?;
-        self.taken = least_taken(self.rt.alloc(), &all, handed)?.unwrap_or(0);
-        let sum = self.settings.sum;
-        let first = format!(in self.rt.alloc(); "live,{name},{sum},0\n")?;
+        self.taken = least_taken(self.rt.alloc(), &all, self.handed_with(Some(&self.out)))?;
+        let (sum, cut) = (self.settings.sum, front.count);
+        let first = format!(in self.rt.alloc(); "live,{name},{sum},{cut}\n")?;
         put(self.rt, first.as_bytes())?;
         self.synced = seconds(self.rt);
+        let size = self.folder.journal_size()?;
+        self.cuts = Cuts::new(self.settings.cut, size, Instant::now(self.rt).ok());
         self.hand_out(count)
+    }
+
+    // What was handed out, with the lines, where they are there.
+    fn handed_with<'h>(&self, lines: Option<&'h [u8]>) -> Handed<'h> {
+        Handed {
+            name: self.name,
+            count: self.handed,
+            front: self.front,
+            lines,
+        }
     }
 
     // Hands out what is to be, behind which so many lines were handed out in all.
     fn hand_out(&mut self, count: u64) -> Result<(), LiveStop> {
         put(self.rt, &self.out)?;
-        self.counts.add(&self.out)?;
+        count_rows(&self.out, &mut self.counts)?;
         self.handed = count;
         self.out.clear();
         Ok(())
@@ -269,36 +305,100 @@ where
         );
     }
 
-    // Looks at what sinks told, and renews what monitors read, where it is time.
-    fn look_round(&mut self) -> Result<(), LiveStop> {
+    // Looks at what sinks told, cuts the journal, and renews what monitors read, where it is time.
+    fn look_round<T: LineTaker + Measured>(
+        &mut self,
+        live: &mut Live<JournalFiles<'r, R>, T>,
+    ) -> Result<(), Halt> {
         let Ok(now) = Instant::now(self.rt) else {
             return Ok(());
         };
         if is_due(self.look, now) {
             self.look_at_sinks()?;
-            self.look = now.checked_add(Duration::from_secs(LOOK));
+            self.cut_in_time(live, now)?;
+            self.look = time_after(self.rt, LOOK);
         }
         if is_due(self.renew, now) {
-            self.renew(now)?;
+            self.renew(live.run().taker(), now)?;
             self.renew = now.checked_add(Duration::from_secs(RENEW));
         }
         Ok(())
     }
 
     fn look_at_sinks(&mut self) -> Result<(), LiveStop> {
-        let handed = Handed {
-            name: self.name,
-            count: self.handed,
-            lines: None,
-        };
         let all = self.folder.taken()?;
-        self.taken = least_taken(self.rt.alloc(), &all, handed)?.unwrap_or(0);
+        self.taken = least_taken(self.rt.alloc(), &all, self.handed_with(None))?;
         Ok(())
     }
 
+    // Cuts the journal where it is time, and sinks have all lines.
+    fn cut_in_time<T: LineTaker>(
+        &mut self,
+        live: &mut Live<JournalFiles<'r, R>, T>,
+        now: Instant,
+    ) -> Result<(), Halt> {
+        let size = self.folder.journal_size()?;
+        if self.cuts.is_due(size, now) && self.have_all(now)? {
+            self.cut(live, size)?;
+        }
+        Ok(())
+    }
+
+    // Whether all sinks that told have all lines. It waits a little where they don't yet: meanwhile nothing is read of the log.
+    fn have_all(&mut self, now: Instant) -> Result<bool, LiveStop> {
+        if self.taken == Some(self.handed) {
+            return Ok(true);
+        }
+        if self.taken.is_none() || !is_due(self.wait, now) {
+            return Ok(false);
+        }
+        for _ in 0..WAITS {
+            thread::sleep(self.rt, Duration::from_millis(WAIT));
+            self.look_at_sinks()?;
+            if self.taken == Some(self.handed) {
+                return Ok(true);
+            }
+        }
+        self.wait = time_after(self.rt, REST);
+        Ok(false)
+    }
+
+    // Cuts the journal, which has so many bytes. Where it can't be written, it goes on as it was.
+    fn cut<T: LineTaker>(
+        &mut self,
+        live: &mut Live<JournalFiles<'r, R>, T>,
+        size: u64,
+    ) -> Result<(), Halt> {
+        let outcome = live.cut(self.rt.alloc());
+        let now = Instant::now(self.rt).ok();
+        match outcome {
+            Ok(true) => {
+                self.front = Front {
+                    count: live.run().count(),
+                    sum: live.run().sum(),
+                };
+                let size = self.folder.journal_size()?;
+                self.cuts.cut(size, now, seconds(self.rt));
+            }
+            Ok(false) => self.cuts.put_off(size, now),
+            Err(ReplaceError::Kept(_)) => self.fail_to_cut(now),
+            Err(error) => return Err(Halt::from(error)),
+        }
+        Ok(())
+    }
+
+    // Tells that the journal can't be cut, unless it was told.
+    fn fail_to_cut(&mut self, now: Option<Instant>) {
+        if self.cuts.fail(now) {
+            let _ = eprintln!(self.rt;
+                "wsm: DIR/journal can't be cut, as where its disk is full: goes on with it as it is, and tries again each hour"
+            );
+        }
+    }
+
     // Renews what monitors read. Where it can't be written that is told once, and the run goes on.
-    fn renew(&mut self, now: Instant) -> Result<(), LiveStop> {
-        match self.renew_health(now) {
+    fn renew<T: Measured>(&mut self, taker: &T, now: Instant) -> Result<(), LiveStop> {
+        match self.renew_health(taker, now) {
             Ok(()) => self.is_unwell = false,
             Err(LiveStop::File(fault)) => self.tell_unwell(fault),
             Err(stop) => return Err(stop),
@@ -314,18 +414,19 @@ where
         }
     }
 
-    fn renew_health(&mut self, now: Instant) -> Result<(), LiveStop> {
+    fn renew_health<T: Measured>(&mut self, taker: &T, now: Instant) -> Result<(), LiveStop> {
         let health = Health {
             lines: self.lines,
             handed: self.handed,
-            untaken: self.handed.saturating_sub(self.taken),
+            untaken: self.handed.saturating_sub(self.taken.unwrap_or(0)),
             behind: self.behind()?,
-            quiet: quiet_since(self.came, now),
+            quiet: seconds_since(self.came, now),
             journal: self.folder.journal_size()?,
             synced: self.synced,
+            cut: self.cuts.last,
             now: seconds(self.rt),
         };
-        let text = health.text(self.rt.alloc(), &self.counts)?;
+        let text = health.text(self.rt.alloc(), taker, &self.counts)?;
         Ok(put_health(self.rt, self.health.as_str(), &text)?)
     }
 
@@ -350,12 +451,10 @@ fn is_due(time: Option<Instant>, now: Instant) -> bool {
     }
 }
 
-// How many seconds are gone since a line came; none where none came yet.
-fn quiet_since(came: Option<Instant>, now: Instant) -> u64 {
-    match came {
-        Some(came) => now.saturating_duration_since(came).as_secs(),
-        None => 0,
-    }
+// The time in so many seconds.
+fn time_after<R: Clock>(rt: &R, seconds: u64) -> Option<Instant> {
+    let now = Instant::now(rt).ok()?;
+    now.checked_add(Duration::from_secs(seconds))
 }
 
 // The seconds since 1970.

@@ -1,12 +1,20 @@
 -- What takes the lines of a log, as it is seen.
-use Rattle.std.specs.Prelude.{ℕ, List}
+use Rattle.std.specs.Prelude.{◌≡◌, ℕ, List}
 use Rattle.wsm_intake.specs.declared.intake.Intake.{Intake}
-use Rattle.wsm_live.specs.Told.{Turn}
+use Rattle.wsm_intake.specs.GoesOn.{GoesOn}
+use Rattle.wsm_intake.specs.Saved.{Saved}
 use Rattle.wsm_live_run.specs.declared.log_lines.LogLines.{LogLines}
-use Rattle.wsm_live_run.specs.Turns.{TurnsBy}
+use Rattle.wsm_live_run.specs.Turns.{TakenBy}
 
-abbrev pub Stands : LogLines → Turn → List (List ℕ) → Type 0
-Stands l turn before = TurnsBy l.intake turn before
+-- it takes lines by that, and writes for those that come what is written behind these, the newest first: it took them, or goes on from
+-- what they came to
+pub record Stands (l : LogLines) (by : TakenBy) (before : List (List ℕ)) : Type 0 where
+  pub clocks : l.clocks ≡ by.clocks
+  pub goes_on : GoesOn by.source by.clocks by.program l.intake before
+
+-- a text says what these lines come to
+abbrev pub SavedBy : List ℕ → TakenBy → List (List ℕ) → Type 0
+SavedBy text by before = Saved by.source by.clocks by.program before text
 
 abbrev pub bytes_of : LogLines → List ℕ
 bytes_of l = l.intake.told.lines.items

@@ -1,28 +1,29 @@
 //! Who takes the lines of a log.
 
-ghost use Rattle.std.specs.Prelude.{◌≡◌, [], IfOk};
 ghost use Rattle.wsm_turns.specs.Clocks.{AreClocks};
-ghost use Rattle.wsm_live.specs.Live.{IsBehind, longest_of};
-ghost use Rattle.wsm_live_run.specs.Turns.{turn_by};
-ghost use Rattle.wsm_live_run.specs.Seen.{Stands};
+ghost use Rattle.wsm_live_run.specs.Known.{AreClocks-prop};
 
 use std::alloc::{AllocError, Global};
 use wsm_intake::Intake;
 use wsm_lines::Source;
-use wsm_live::{LineTaker, LiveRun};
+use wsm_live::LineTaker;
 use wsm_rules::Verified;
 use wsm_turns::Clocks;
 
-/// Takes the lines of a log, by a source and clocks, and writes what a query does.
+/// Takes the lines of a log, by a source and clocks, and writes what a query does. What the lines came to can be saved, and others
+/// go on from that.
 #[derive(Drop)]
 pub struct LogLines {
+    alloc: Global,
     intake: Intake,
+    clocks: Option<Clocks>,
+    ghost are_clocks: { AreClocks clocks } by { AreClocks-prop clocks },
 }
 
 impl LogLines {
     ghost use Rattle.std.specs.Prelude.{◌≡◌, [], IfOk};
     ghost use Rattle.wsm_turns.specs.Clocks.{AreClocks};
-    ghost use Rattle.wsm_live_run.specs.Turns.{turn_by};
+    ghost use Rattle.wsm_live_run.specs.Turns.{taken_by};
     ghost use Rattle.wsm_live_run.specs.Seen.{Stands, intake_of};
 
     /// Before the first line.
@@ -37,10 +38,14 @@ impl LogLines {
         clocks: Option<Clocks>,
     ) -> Result<LogLines, AllocError>
         requires { AreClocks clocks }
-        ensures { IfOk result (λ lines. Stands lines (turn_by source clocks verified) []) }
+        ensures { IfOk result (λ lines. Stands lines (taken_by source clocks verified) []) }
     {
-        let intake = Intake::open(alloc, verified, source, clocks)?;
-        Ok(LogLines { intake })
+        let intake = Intake::open_kept(alloc, verified, source, clocks)?;
+        Ok(LogLines {
+            alloc,
+            intake,
+            clocks,
+        })
     }
 
     /// What the lines so far come to.
@@ -52,11 +57,18 @@ impl LogLines {
 }
 
 impl LineTaker for LogLines {
-    ghost use Rattle.wsm_live_run.specs.Seen.{Stands, bytes_of};
+    ghost use Rattle.wsm_live_run.specs.Turns.{TakenBy, turn_of};
+    ghost use Rattle.wsm_live_run.specs.Seen.{SavedBy, Stands, bytes_of};
+
+    ghost By = { TakenBy };
+
+    ghost turn = { turn_of };
 
     ghost stands = { Stands };
 
     ghost written = { bytes_of };
+
+    ghost states = { SavedBy };
 
     fn take(&mut self, line: &[u8]) -> Result<(), AllocError> {
         self.intake.take(line)
@@ -65,24 +77,19 @@ impl LineTaker for LogLines {
     fn written(&self) -> &[u8] {
         self.intake.lines()
     }
-}
 
-/// A run of which no line was taken.
-///
-/// # Errors
-///
-/// Memory was refused.
-pub fn live_run(
-    alloc: Global,
-    verified: Verified,
-    source: Source,
-    clocks: Option<Clocks>,
-) -> Result<LiveRun<LogLines>, AllocError>
-    requires { AreClocks clocks }
-    ensures behind { IfOk result (λ run. IsBehind Stands run (turn_by source clocks verified) []) }
-    ensures longest { IfOk result (λ run. longest_of run ≡ source.longest) }
-{
-    let longest = source.longest;
-    let lines = LogLines::open(alloc, verified, source, clocks)?;
-    Ok(LiveRun::new(alloc, lines, longest))
+    fn save(&mut self, text: &mut Vec<u8>) -> Result<bool, AllocError> {
+        self.intake.save(text)
+    }
+
+    fn resume(self, text: &[u8]) -> Result<Option<Self>, AllocError> {
+        match self.intake.resume(self.alloc, self.clocks, text)? {
+            Some(intake) => Ok(Some(LogLines {
+                alloc: self.alloc,
+                intake,
+                clocks: self.clocks,
+            })),
+            None => Ok(None),
+        }
+    }
 }
