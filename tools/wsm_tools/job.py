@@ -14,7 +14,7 @@ STATE is the folder that systemd gives the unit, else /var/lib/wsm-live. The fil
     columns, part         their words for `sink`, where they are said; columns is a list
     sink                  in the place of these three the words of another command that takes the numbered lines; it has
                           DIR, LOG, QUERY and SOURCE in its environment
-    patience, health      those of `wsm live`, where they are said
+    patience, cut, health  those of `wsm live`, where they are said
 
 A path that doesn't begin with / is beside the file; that of table lies in STATE.
 
@@ -24,9 +24,9 @@ to `wsm live`, and is removed. check judges too, and prints the two commands of 
 
 save writes a tar of all that the job has to standard output, also while it runs: the table as of one moment, what sinks
 told, the journal, and the file with its query and source. The table is copied first and the journal last, from the file
-that it was in front of the table's copy: a journal only grows, or is another one, and then all is copied anew. So it has
-all lines that the table has, and none was cut off that the table lacks. What was read of the log is in the journal. A table
-in PostgreSQL and what another sink keeps aren't in it: save these before.
+that it was in front of the table's copy: a journal only grows, or is another one, as behind a cut, and then all is copied
+anew. So it has all lines that the table has, and none was cut off that the table lacks. A table in PostgreSQL and what
+another sink keeps aren't in it: save these before.
 
 It ends with status 2 by its words or the file's, and with those of `wsm` by query and source; of save with 6 where something
 can't be read, and 7 where it can't be written.
@@ -44,7 +44,7 @@ if TYPE_CHECKING:
     from argparse import Namespace
 
 FILES, STATE = "/etc/wsm", "/var/lib/wsm-live"
-TYPES = {"log": str, "query": str, "source": str, "table": str, "columns": list, "part": str, "sink": list, "patience": int, "health": str}
+TYPES = {"log": str, "query": str, "source": str, "table": str, "columns": list, "part": str, "sink": list, "patience": int, "cut": int, "health": str}
 SAID = {str: "a text", list: "a list of texts", int: "a whole number"}
 PATHS = ("log", "query", "source", "health")
 NEEDED = ("log", "query", "source")
@@ -60,7 +60,7 @@ class Job(NamedTuple):
 
     def live(self) -> List[str]:
         """The command that hands out the lines."""
-        more = [word for key in ("patience", "health") if key in self.said for word in (f"--{key}", str(self.said[key]))]
+        more = [word for key in ("patience", "cut", "health") if key in self.said for word in (f"--{key}", str(self.said[key]))]
         return [asking.program(), "live", *more, self.folder, "--from", self.said["source"], self.said["query"], self.said["log"]]
 
     def sink(self) -> List[str]:
