@@ -1,14 +1,9 @@
-"""A log that grows, the pipeline that keeps a table of it, and ways to kill that, for trials/kills and trials/front."""
-import contextlib
-import os
-import signal
-import sqlite3
+"""A log that grows, the table that SQL makes of it, and the processes that were begun for one."""
 import subprocess
 import time
 from pathlib import Path
 
 PATIENCE = 30
-PANES = "SELECT key, begins, ends, calls, bytes FROM panes ORDER BY begins, key"
 
 
 def log_of(drawn, number):
@@ -33,24 +28,6 @@ def by_sql(folder, text):
     return subprocess.run(words, cwd=folder, input=text, stdout=subprocess.PIPE, text=True, check=True).stdout.splitlines()
 
 
-def asked(file, question):
-    """The rows of a question, or none while the table isn't there."""
-    try:
-        with contextlib.closing(sqlite3.connect(f"file:{file}?mode=ro", uri=True, timeout=10)) as table:
-            return table.execute(question).fetchall()
-    except sqlite3.Error:
-        return []
-
-
-def taken(file):
-    """How many lines the table has taken."""
-    return next((lines for lines, in asked(file, "SELECT lines FROM taken")), 0)
-
-
-def panes(file):
-    return ["|".join(map(str, row)) for row in asked(file, PANES)]
-
-
 def started_by(process):
     """The processes that a process started."""
     try:
@@ -72,49 +49,6 @@ def name_of(process):
         return "gone"
     is_script = Path(words[0]).name.startswith("python") and len(words) > 2
     return Path(words[1] if is_script else words[0]).name or "gone"
-
-
-class Pipeline:
-    """The pipeline over the log so far, in a group of its own. What it tells is added to a file."""
-
-    def __init__(self, folder, *words):
-        with open(folder / "told", "ab") as told:
-            command = [folder / "tools/traffic", *words]
-            self.process = subprocess.Popen(command, cwd=folder, start_new_session=True, stderr=told)
-
-    def kill_one(self, drawn):
-        """Kills one of its processes, or all; the one that was killed."""
-        found = [process for process in below(self.process.pid) if name_of(process) not in ("bash", "gone")]
-        if not found or drawn.randrange(len(found) + 1) == 0:
-            self.kill_all()
-            return "all"
-        one = drawn.choice(found)
-        name = name_of(one)
-        with contextlib.suppress(ProcessLookupError):
-            os.kill(one, signal.SIGKILL)
-        return name
-
-    def kill_all(self):
-        with contextlib.suppress(ProcessLookupError):
-            os.killpg(self.process.pid, signal.SIGKILL)
-        self.process.wait()
-
-    def end(self):
-        """Waits until it has ended by itself, and kills what is left of it, as a service manager does."""
-        with contextlib.suppress(subprocess.TimeoutExpired):
-            self.process.wait(0.5)
-        self.kill_all()
-
-
-def cut(text, number):
-    return [text[at * len(text) // number:(at + 1) * len(text) // number] for at in range(number)]
-
-
-def write(growing, parts):
-    for part in parts:
-        growing.write(part)
-        growing.flush()
-        time.sleep(0.01)
 
 
 def wait(is_so, patience=PATIENCE):

@@ -160,7 +160,7 @@ def read(path: str) -> str:
         raise Ended(f"{path}: {why.strerror}", BAD_READ) from None
 
 
-def query_of(path: str, wsm: Optional[str] = None) -> Query:
+def query_of(path: str, wsm: Optional[str]) -> Query:
     """The query of a file. One that is refused is told with the file's name."""
     answer = Answer(wsm or program(), read(path))
     if answer.status == BAD_QUERY:

@@ -4,18 +4,14 @@ from __future__ import annotations
 import os
 import re
 import sys
-from typing import TYPE_CHECKING, Iterator, List, Optional, Sequence
+from typing import Iterator, List, Optional, Sequence
 
 from .telling import BAD_READ, SHOWN, Ended, Signals
-
-if TYPE_CHECKING:
-    from .asking import Field
 
 LONGEST = 1 << 16  # bytes of a line; no row that `wsm` takes is as long
 MOST = 2**63 - 1
 LATEST = 10**16  # the latest time that a row of the program has
 HEADER = [b"r", b"KEY", b"TIME"]  # how a first row with the names of the fields begins
-UNREAD = b"unread"  # what stands in the place of a line that could swallow the rows behind it
 MARK_OF_ORDER = b"\xef\xbb\xbf"
 
 
@@ -87,11 +83,3 @@ def number_of(cell: str) -> Optional[int]:
     """What a cell of a field of numbers says; None where that is none, or needs more than 64 bits."""
     said = int(cell) if re.fullmatch("-?[0-9]+", cell) else MOST + 1
     return said if -MOST - 1 <= said <= MOST else None
-
-
-def fits(field: Field, cell: str) -> bool:
-    """Whether a cell is a value of a field."""
-    if field.kind == "INT":
-        number = number_of(cell)
-        return number is not None and field.low <= number <= field.high
-    return cell in (("true", "false") if field.kind == "BOOL" else field.names)

@@ -115,21 +115,6 @@ def shown(line: bytes) -> str:
     return printable(line[:SHOWN].decode("utf-8", "backslashreplace")) + ("..." if len(line) > SHOWN else "")
 
 
-class Tally:
-    """How many of a kind there were: told with the line at hand at the first, at each doubling, and where a minute has passed."""
-
-    def __init__(self, what: str) -> None:
-        self.what, self.count, self.next, self.at = what, 0, 1, 0.0
-
-    def add(self, number: int, line: bytes) -> None:
-        from time import monotonic
-
-        self.count += 1
-        if self.count >= self.next or monotonic() - self.at >= 60:
-            tell(f"{self.what}: {self.count}, line {number}: {shown(line)}")
-            self.next, self.at = 2 * self.count, monotonic()
-
-
 def run(tool: str, main: Callable[[], int]) -> None:
     """Runs a tool, and ends with its status. What ends it early is told."""
     Telling.tool = tool
