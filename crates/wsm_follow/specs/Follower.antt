@@ -1,7 +1,8 @@
 -- What a turn of a follower comes to.
-use Rattle.std.specs.Prelude.{◌≡◌, ◌≤◌, ℕ, ◌-◌, List, [], Option, Some, true, length, ⊤}
+use Rattle.std.specs.Prelude.{◌≡◌, ◌≤◌, ℕ, ◌-◌, List, [], Option, Some, option_map, true, length, ⊤}
 use Rattle.wsm_follow.specs.Follows.{GoesOn, Stand, stand}
-use Rattle.wsm_follow.specs.Logs.{IsAmong, Log, are_distinct, files_of, next_in}
+use Rattle.wsm_follow.specs.Logs.{AreInTurn, IsAmong, Log, are_distinct, files_of, next_in}
+use Rattle.wsm_follow.specs.Names.{Listing, first_readable}
 use Rattle.wsm_follow.specs.Position.{head_sum, tail_sum}
 use Rattle.wsm_follow.specs.Reads.{most_of, text_of}
 use Rattle.wsm_follow.specs.declared.file.FileId.{FileId}
@@ -32,6 +33,12 @@ Goes longest known from text to (Next left) = GoesTo longest known from [] to
 Goes longest known from text to Elsewhere = ⊤
 Goes longest known from text to (Packed name) = to ≡ from
 Goes longest known from text to (Lost lost) = to ≡ from
+
+-- of files in turn a position is at the beginning of the oldest behind which none is packed
+pub record IsFront (known : List Log) (files : List Listing) (p : Position) : Type 0 where
+  pub in_turn : AreInTurn known files
+  pub first : option_map (λ f. f.file) (first_readable files) ≡ Some p.file
+  pub begins : p.offset ≡ 0
 
 -- lines up to an offset were taken, or the file was cut meanwhile
 abbrev pub Takes : Stand → Stand → ℕ → Turn → Type 0

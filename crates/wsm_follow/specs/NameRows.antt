@@ -1,6 +1,6 @@
 -- Names, and the order of files, computed.
-use Rattle.std.specs.Prelude.{◌≡◌, ℕ, List, [], ◌∷◌, Some, None, true, codes, drop, map, refl}
-use Rattle.wsm_follow.specs.Names.{Listing, ending_of, in_order, listing_with}
+use Rattle.std.specs.Prelude.{◌≡◌, ℕ, List, [], ◌∷◌, Some, None, true, codes, drop, map, option_map, refl}
+use Rattle.wsm_follow.specs.Names.{Listing, ending_of, first_readable, in_order, listing_with}
 
 the_log : ending_of (codes "a.log") (codes "a.log") ≡ Some []
 the_log = refl
@@ -56,3 +56,10 @@ by_times = refl
 -- numbers and dates beside one another by the times
 mixed : names (in_order (at (codes "a.1") 8 ∷ at (codes "a.2") 9 ∷ at (codes "a-20261128") 7 ∷ [])) ≡ codes "a-20261128" ∷ codes "a.1" ∷ codes "a.2" ∷ []
 mixed = refl
+
+-- a log is read from its oldest file on, or from behind its last packed one
+the_oldest : option_map (λ f. f.name) (first_readable (at (codes "a.2") 4 ∷ at (codes "a.1") 9 ∷ at (codes "a") 3 ∷ [])) ≡ Some (codes "a.2")
+the_oldest = refl
+
+behind_packed : option_map (λ f. f.name) (first_readable (at (codes "a.3") 2 ∷ at (codes "a.2.gz") 4 ∷ at (codes "a.1") 9 ∷ at (codes "a") 3 ∷ [])) ≡ Some (codes "a.1")
+behind_packed = refl

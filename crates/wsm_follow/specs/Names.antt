@@ -123,3 +123,13 @@ with_files by_number sorted (f ∷ fs) = with_file by_number f (with_files by_nu
 -- the files of a log, the oldest first: by their numbers where each has one, else by the times of their changes
 abbrev pub in_order : List Listing → List Listing
 in_order files = with_files (are_numbered files) [] files
+
+-- one of the files is packed
+abbrev pub has_packed : List Listing → Bool
+has_packed [] = false
+has_packed (f ∷ fs) = f.is_packed || has_packed fs
+
+-- the oldest file behind which none is packed
+abbrev pub first_readable : List Listing → Option Listing
+first_readable [] = None
+first_readable (f ∷ fs) = if has_packed (f ∷ fs) then first_readable fs else Some f

@@ -1,13 +1,15 @@
 //! The whole lines of a log, in turns.
 
-ghost use Rattle.std.specs.Prelude.{◌≡◌, IfOk, IfSome, map, option_map};
+ghost use Rattle.std.specs.Prelude.{◌≡◌, List, IfOk, IfSome, Some, map, option_map};
+ghost use Rattle.wsm_follow.specs.Follower.{IsFront};
 ghost use Rattle.wsm_follow.specs.Listed.{listing};
-ghost use Rattle.wsm_follow.specs.Logs.{next_in};
+ghost use Rattle.wsm_follow.specs.Logs.{Log, next_in};
+ghost use Rattle.wsm_follow.specs.Names.{Listing};
 
 use crate::choice::{Candidate, Choice, Loss, chosen};
 use crate::file::{FileId, is_same};
 use crate::folder::{Folder, FolderFault};
-use crate::order::{Listed, in_order};
+use crate::order::{Listed, first_readable, in_order};
 use crate::position::{Name, Position};
 use crate::reading::{Found, Reading};
 use crate::sums::sums_at;
@@ -42,8 +44,8 @@ pub struct Lost {
     pub loss: Loss,
     /// How many bytes of the log were read, which are gone or changed.
     pub read: u64,
-    /// How many bytes there are in all the files of the log that aren't packed: begun with the oldest, these are
-    /// read, and what was read before comes again.
+    /// How many bytes the log's own file has: these are read where it is begun anew, and what was read before
+    /// comes again.
     pub there: u64,
 }
 
@@ -81,18 +83,28 @@ fn changed_since(changed: u64, files: &[Listed]) -> Option<&Listed> {
     files.iter().find(|f| f.is_log || changed <= f.changed)
 }
 
-// How many bytes the files have that aren't packed.
+// How many bytes the log's own file has.
 fn bytes_there(files: &[Candidate]) -> u64 {
-    let mut sum = 0u64;
-    for file in files {
-        if !file.listed.is_packed {
-            sum = sum.saturating_add(file.listed.size);
-        }
+    match files.iter().find(|f| f.listed.is_log) {
+        Some(log) => log.listed.size,
+        None => 0,
     }
-    sum
 }
 
-/// The position at the beginning of the log, if that is there.
+// The position at the beginning of a file.
+fn front_of(file: FileId, name: Name) -> Position
+    ensures { result ≡ record { file = file; offset = 0; head = 0; tail = 0; name = name } }
+{
+    Position {
+        file,
+        offset: 0,
+        head: 0,
+        tail: 0,
+        name,
+    }
+}
+
+/// The position at the beginning of the log's own file, if that is there.
 ///
 /// # Errors
 ///
@@ -103,14 +115,44 @@ pub fn beginning<F: Folder>(folder: &mut F, log: Name) -> Result<Option<Position
 {
     let files = folder.list(log.bytes())?;
     match files.iter().find(|f| f.is_log) {
-        Some(file) => Ok(Some(Position {
-            file: file.file,
-            offset: 0,
-            head: 0,
-            tail: 0,
-            name: log,
-        })),
+        Some(file) => Ok(Some(front_of(file.file, log))),
         None => Ok(None),
+    }
+}
+
+/// The position at the beginning of the log as far back as it can be read, if its own file is there: in the oldest of
+/// its files behind which none is packed.
+///
+/// # Errors
+///
+/// A call of the folder failed, or memory was refused.
+pub fn first_beginning<F: Folder>(
+    alloc: Global,
+    folder: &mut F,
+    log: &Name,
+) -> Result<Option<Position>, FolderFault>
+    ensures logs { F.logs folder.new ≡ F.logs folder.old }
+    ensures begins { (known : List Log) → F.logs folder.old ≡ Some known → IfOk result (λ o. IfSome o (λ p. (files : List Listing) × IsFront known files p)) }
+{
+    let files = in_order(alloc, folder.list(log.bytes())?)?;
+    match first_readable(files.as_slice()) {
+        Some(file) if has_log(files.as_slice()) => Ok(Some(front_in(alloc, file)?)),
+        _ => Ok(None),
+    }
+}
+
+// Whether the log's own file is there.
+fn has_log(files: &[Listed]) -> bool {
+    files.iter().any(|f| f.is_log)
+}
+
+// The position at the beginning of a file of the log.
+fn front_in(alloc: Global, file: &Listed) -> Result<Position, FolderFault>
+    ensures { IfOk result (λ p. (p.file ≡ file.now.file) × (p.offset ≡ 0)) }
+{
+    match Name::new(alloc, file.name.as_slice())? {
+        Some(name) => Ok(front_of(file.file, name)),
+        None => Err(FolderFault::Failed),
     }
 }
 
@@ -280,16 +322,7 @@ impl Follower {
         if file.is_packed {
             return Ok(Some(file.name.clone()?));
         }
-        let Some(name) = Name::new(self.alloc, file.name.as_slice())? else {
-            return Err(FolderFault::Failed);
-        };
-        self.position = Position {
-            file: file.file,
-            offset: 0,
-            head: 0,
-            tail: 0,
-            name,
-        };
+        self.position = front_in(self.alloc, file)?;
         Ok(None)
     }
 

@@ -13,7 +13,7 @@
 pub use choice::Loss;
 pub use file::FileId;
 pub use folder::{Ended, Folder, FolderFault};
-pub use follower::{Follower, Lost, Turn, beginning};
+pub use follower::{Follower, Lost, Turn, beginning, first_beginning};
 pub use log_folder::LogFolder;
 pub use order::Listed;
 pub use position::{Name, Position};

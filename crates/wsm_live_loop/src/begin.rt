@@ -8,7 +8,7 @@ use std::path::Path;
 use std::rt::Files;
 use std::thread;
 use std::time::{Clock, Duration};
-use wsm_follow::{Folder, Follower, LogFolder, Name, Position, beginning};
+use wsm_follow::{Folder, Follower, LogFolder, Name, Position, first_beginning};
 use wsm_journal::is_position;
 use wsm_live::{HeadRow, LineTaker, Live, LiveRun};
 use wsm_live_files::{FileCall, FolderFault, JournalFiles, LiveFolder, RunName};
@@ -47,13 +47,13 @@ impl<'p> LogPlace<'p> {
     }
 }
 
-// The text of the position at the log's beginning, if the log is there.
+// The text of the position at the beginning of the log, as far back as it can be read, if it is there.
 fn beginning_text<F: Folder>(
     alloc: Global,
     place: LogPlace<'_>,
     log: &mut F,
 ) -> Result<Option<Vec<u8>>, LiveStop> {
-    match beginning(log, place.known(alloc)?)? {
+    match first_beginning(alloc, log, &place.known(alloc)?)? {
         Some(position) => {
             let mut text = Vec::new(alloc);
             position.write(&mut text)?;
