@@ -335,7 +335,7 @@ impl<F: JournalFolder, T: LineTaker> Live<F, T> {
     }
 
     /// Takes the lines of a text that have ended, behind which the log stands at a position. They are kept in the journal, on the
-    /// disk, before they are taken, and what is handed out for them is added.
+    /// disk, before they are taken, and what is handed out for them is added. Answers how many lines they are.
     ///
     /// # Errors
     ///
@@ -346,7 +346,7 @@ impl<F: JournalFolder, T: LineTaker> Live<F, T> {
         text: &[u8],
         position: &[u8],
         out: &mut Vec<u8>,
-    ) -> Result<(), LiveError>
+    ) -> Result<usize, LiveError>
         requires settled { IsOpen F.folder (journal_of self.old) }
         requires position { is_position position.now ≡ true }
         ensures settled { OnOk result (IsOpen F.folder (journal_of self.new)) }
@@ -357,13 +357,14 @@ impl<F: JournalFolder, T: LineTaker> Live<F, T> {
         ensures any_moment { LeavesSince F.moment F.left_since (folder_of (journal_of self.old)) (folder_of (journal_of self.new)) (HasOneMore (F.folder (folder_of (journal_of self.old))) (entry_behind (last_of (journal_of self.old)) (length (ended_lines text.now)) (rows_of_text text.now) position.now)) }
         ensures front { front_of self.new ≡ front_of self.old }
         ensures position { OnOk result (position_of self.new ≡ position.now) }
+        ensures count { IfOk result (λ count. count ≡ length (ended_lines text.now)) }
     {
         let count = put_rows(text, &mut self.rows)?;
         self.journal.append(count as u64, &self.rows, position)?;
         self.position.clear();
         self.position.extend_from_slice(position)?;
         self.run.take(&self.rows, out)?;
-        Ok(())
+        Ok(count)
     }
 
     /// Puts a head in the place of all records: it says what the lines so far came to, and the run goes on behind it. Answers false

@@ -1,6 +1,5 @@
 //! What stands in numbered lines, `NUMBER,SUM,LINE`.
 
-use memchr::memchr_iter;
 use std::alloc::AllocError;
 use wsm_row_counts::Counts;
 
@@ -23,11 +22,6 @@ pub fn sum_at(lines: &[u8], number: u64) -> Option<u32> {
         }
     }
     None
-}
-
-/// How many lines end in a text.
-pub fn count_lines(text: &[u8]) -> u64 {
-    memchr_iter(b'\n', text).count() as u64
 }
 
 /// Counts the rows that stand in numbered lines.

@@ -5,7 +5,7 @@ ghost use Rattle.std.specs.Prelude.{ℕ};
 use crate::begin::{LogPlace, begin_text, opened};
 use crate::follow;
 use crate::health::Health;
-use crate::numbered::{count_lines, count_rows, sum_at};
+use crate::numbered::{count_rows, sum_at};
 use crate::settings::Settings;
 use crate::stop::{LiveStop, SinkFault};
 use std::alloc::{AllocError, Global};
@@ -28,7 +28,6 @@ fn finds_sums(rt: HostRuntime) -> Result<(), Fail> {
     assert_eq!(rt; sum_at(LINES, 1), Some(2178106104));
     assert_eq!(rt; sum_at(LINES, 2), Some(77));
     assert_eq!(rt; sum_at(LINES, 3), None);
-    assert_eq!(rt; count_lines(LINES), 2);
     Ok(())
 }
 

@@ -3,7 +3,7 @@
 use crate::begin::{LogPlace, PAUSE, begin_text, follower_at, opened};
 use crate::cuts::{Cuts, seconds_since};
 use crate::health::Health;
-use crate::numbered::{count_lines, count_rows};
+use crate::numbered::count_rows;
 use crate::settings::Settings;
 use crate::sinks::{Handed, least_taken};
 use crate::stop::{LiveStop, stop_of};
@@ -263,10 +263,8 @@ where
         if !is_position(&self.position) {
             return Err(Halt::Stop(LiveStop::NoPosition));
         }
-        live.append(self.follower.lines(), &self.position, &mut self.out)?;
-        self.lines = self
-            .lines
-            .saturating_add(count_lines(self.follower.lines()));
+        let count = live.append(self.follower.lines(), &self.position, &mut self.out)?;
+        self.lines = self.lines.saturating_add(count as u64);
         self.synced = seconds(self.rt);
         self.came = Instant::now(self.rt).ok();
         Ok(self.hand_out(live.run().count())?)

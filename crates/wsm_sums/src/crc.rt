@@ -1,9 +1,10 @@
-//! CRC-32 of a text, eight bytes at a time by tables.
+//! CRC-32 of a text, sixteen bytes at a time by tables.
 
-ghost use Rattle.std.specs.Prelude.{◌≡◌, ◌<◌, ◌≤◌, ◌+◌, ◌%◌, bit_xor, drop, length};
+ghost use Rattle.std.specs.Prelude.{◌≡◌, ◌<◌, ◌≤◌, ◌+◌, ◌%◌, bit_xor, drop, length, take};
 ghost use Rattle.wsm_sums.specs.Crc.{byte_step, rest_after, sum_behind};
 
-use crate::table::{STEPS_8, STEPS_16, STEPS_24, STEPS_32, STEPS_40, STEPS_48, STEPS_56, STEPS_64};
+use crate::far_table::FAR;
+use crate::table::NEAR;
 use std::marker::Model;
 
 #[inline]
@@ -19,23 +20,48 @@ fn lowest_byte(left: u32) -> usize
 fn rest_behind(rest: u32, byte: u8) -> u32
     ensures { result ≡ byte_step (bit_xor rest byte) }
 {
-    STEPS_8[lowest_byte(rest ^ byte as u32)] ^ (rest >> 8)
+    NEAR[0][lowest_byte(rest ^ byte as u32)] ^ (rest >> 8)
 }
 
-// What is left of the division behind eight bytes more, which stand at a place.
+// What is left of the division behind sixteen bytes more, which stand at a place.
 #[inline]
-fn rest_behind_eight(rest: u32, bytes: &[u8], at: usize) -> u32
-    requires { at + 8 ≤ length bytes.now }
-    ensures { rest_after rest (drop at bytes.now) ≡ rest_after result (drop (at + 8) bytes.now) }
+fn rest_behind_sixteen(rest: u32, bytes: &[u8], at: usize) -> u32
+    requires { at + 16 ≤ length bytes.now }
+    ensures { rest_after rest (drop at bytes.now) ≡ rest_after result (drop (at + 16) bytes.now) }
 {
-    STEPS_64[lowest_byte(rest ^ bytes[at] as u32)]
-        ^ (STEPS_56[lowest_byte((rest >> 8) ^ bytes[at + 1] as u32)]
-            ^ (STEPS_48[lowest_byte((rest >> 16) ^ bytes[at + 2] as u32)]
-                ^ (STEPS_40[lowest_byte((rest >> 24) ^ bytes[at + 3] as u32)]
-                    ^ (STEPS_32[bytes[at + 4] as usize]
-                        ^ (STEPS_24[bytes[at + 5] as usize]
-                            ^ (STEPS_16[bytes[at + 6] as usize]
-                                ^ STEPS_8[bytes[at + 7] as usize]))))))
+    let word = rest ^ u32::from_le_bytes([bytes[at], bytes[at + 1], bytes[at + 2], bytes[at + 3]]);
+    FAR[7][lowest_byte(word)]
+        ^ (FAR[6][lowest_byte(word >> 8)]
+            ^ (FAR[5][lowest_byte(word >> 16)]
+                ^ (FAR[4][lowest_byte(word >> 24)] ^ rest_of_twelve(bytes, at + 4))))
+}
+
+// What twelve bytes, which stand at a place, leave by themselves.
+#[inline]
+fn rest_of_twelve(bytes: &[u8], at: usize) -> u32
+    requires { at + 12 ≤ length bytes.now }
+    ensures { result ≡ rest_after 0 (take 12 (drop at bytes.now)) }
+{
+    FAR[3][bytes[at] as usize]
+        ^ (FAR[2][bytes[at + 1] as usize]
+            ^ (FAR[1][bytes[at + 2] as usize]
+                ^ (FAR[0][bytes[at + 3] as usize] ^ rest_of_eight(bytes, at + 4))))
+}
+
+// What eight bytes, which stand at a place, leave by themselves.
+#[inline]
+fn rest_of_eight(bytes: &[u8], at: usize) -> u32
+    requires { at + 8 ≤ length bytes.now }
+    ensures { result ≡ rest_after 0 (take 8 (drop at bytes.now)) }
+{
+    NEAR[7][bytes[at] as usize]
+        ^ (NEAR[6][bytes[at + 1] as usize]
+            ^ (NEAR[5][bytes[at + 2] as usize]
+                ^ (NEAR[4][bytes[at + 3] as usize]
+                    ^ (NEAR[3][bytes[at + 4] as usize]
+                        ^ (NEAR[2][bytes[at + 5] as usize]
+                            ^ (NEAR[1][bytes[at + 6] as usize]
+                                ^ NEAR[0][bytes[at + 7] as usize]))))))
 }
 
 // What is left of the division behind some bytes more, one at a time.
@@ -56,9 +82,9 @@ fn rest_after(rest: u32, bytes: &[u8]) -> u32
 {
     let mut left = rest;
     let mut at = 0;
-    while bytes.len() - at >= 8 {
-        left = rest_behind_eight(left, bytes, at);
-        at += 8;
+    while bytes.len() - at >= 16 {
+        left = rest_behind_sixteen(left, bytes, at);
+        at += 16;
     }
     rest_behind_each(left, &bytes[at..])
 }

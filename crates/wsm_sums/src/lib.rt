@@ -7,6 +7,7 @@
 pub use crc::Crc32;
 
 mod crc;
+mod far_table;
 pub mod laws;
 mod table;
 #[cfg(test)]
