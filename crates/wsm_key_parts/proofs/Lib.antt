@@ -1,0 +1,14 @@
+pub mod Merged
+pub mod TurnOrder
+pub mod MergedParts
+pub mod Alike
+pub mod Openers
+pub mod Blanked
+pub mod TakenAlone
+pub mod Late
+pub mod Names
+pub mod Places
+pub mod Deciding
+pub mod PartTurns
+pub mod Counted
+pub mod Together
