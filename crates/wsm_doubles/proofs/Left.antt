@@ -41,9 +41,23 @@ module _ (c : Clock) (shape : Shape) (mark : ℤ) (xs : Memory) (n : ℕ) (below
       ∙ (λ i. record { entries = (left i).entries ++ (text, u) ∷ []; buckets = (left i).buckets })
       ∙ (λ i. record { entries = left_more (may_count c shape mark) xs n below (text, u) entry (ap (may_count c shape mark) entry ∙ counts ∙ ap not off) i; buckets = buckets })
 
+  -- where all before it may count, so they do with it
+  pub all_more : late ≡ false → live c shape mark (take n xs) ≡ take n xs → live c shape mark (take (n + 1) xs) ≡ take (n + 1) xs
+  all_more off all =
+      sym (left_more (may_count c shape mark) xs n below (get_or xs n no_entry) refl (counts ∙ ap not off))
+      ∙ ap (λ (m : Memory). m ++ get_or xs n no_entry ∷ []) all
+      ∙ sym (take_more xs n no_entry below)
+
   -- one that can't is left out
   pub kept_same : (before after : Tabled) → late ≡ true → IsLeft n before → after ≡ before → IsLeft (n + 1) after
   kept_same before after off left stays =
       stays
       ∙ left
       ∙ (λ i. record { entries = left_same (may_count c shape mark) xs n below (get_or xs n no_entry) refl (counts ∙ ap not off) i; buckets = buckets })
+
+pub all_stay : (c : Clock) (shape : Shape) (mark : ℤ) (xs : Memory) (n : ℕ) → n ≡ length xs → live c shape mark (take n xs) ≡ take n xs → live c shape mark xs ≡ xs
+all_stay c shape mark xs n all stay =
+    sym (left_all (may_count c shape mark) xs n all)
+    ∙ stay
+    ∙ ap (λ (m : ℕ). take m xs) all
+    ∙ take_all (length xs) xs (omega arith)

@@ -1,7 +1,7 @@
 //! Chains through hashes that fall into one bucket.
 
 ghost use Rattle.std.specs.Prelude.{◌≡◌, ◌+◌, ◌<◌, ◌≤◌, ◌∷◌, ◌++◌, [], length, slice_index, IfOk, OnOk, OnErr};
-ghost use Rattle.wsm_doubles.specs.Chains.{Hashed, bucket_of, last_in};
+ghost use Rattle.wsm_doubles.specs.Chains.{Hashed, bucket_of, hashes_of, last_in};
 
 use std::alloc::{AllocError, Global};
 use std::marker::Model;
@@ -61,6 +61,26 @@ impl Chains {
             heads: Vec::from_elem(alloc, 0u32, buckets)?,
             links: Vec::with_capacity(alloc, buckets)?,
         })
+    }
+
+    // The hashes of these, with so many buckets and room for as many hashes.
+    fn of_links(alloc: Global, buckets: usize, links: &[Link]) -> Result<Chains, AllocError>
+        requires { 0 < buckets }
+        ensures { IfOk result (λ c. c ≡ record { hashes = hashes_of links.now; buckets = buckets }) }
+    {
+        let mut chains = Chains::with_buckets(alloc, buckets)?;
+        for link in links {
+            chains.push(link.hash)?;
+        }
+        Ok(chains)
+    }
+
+    // The same hashes, with so many buckets.
+    pub(crate) fn spread(&self, alloc: Global, buckets: usize) -> Result<Chains, AllocError>
+        requires { 0 < buckets }
+        ensures { IfOk result (λ c. c ≡ record { hashes = self.now.hashes; buckets = buckets }) }
+    {
+        Chains::of_links(alloc, buckets, &self.links)
     }
 
     pub(crate) fn buckets(&self) -> usize

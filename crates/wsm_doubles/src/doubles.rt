@@ -119,44 +119,101 @@ impl Doubles {
         ensures unchanged { (memory : Memory) → Recalls clock.now shape mark self.old memory → OnErr result (Recalls clock.now shape mark self.new memory) }
         ensures small { (most : ℕ) → length (live clock.now shape mark self.old.entries) ≤ most → IsSmall most self.old → IsSmall most self.new }
     {
-        let clock = *clock;
-        let moment = Moment { clock, shape, mark };
+        let moment = Moment {
+            clock: *clock,
+            shape,
+            mark,
+        };
         let hash = hash_of(identifier);
         if self.table.knows(identifier, hash, moment) {
             return Ok(false);
         }
-        make_room(self.alloc, &mut self.table, &mut self.room, moment)?;
+        make_room(
+            self.alloc,
+            &mut self.table,
+            &mut self.room,
+            clock,
+            shape,
+            mark,
+        )?;
         self.table.push(identifier, hash, time)?;
         Ok(true)
     }
 }
 
-// Has room for one more: where there is none, drops what can't count any more at a moment.
+// Has room for one more: where there is none, drops what can't count any more at a watermark.
 #[inline(always)]
 fn make_room(
     alloc: Global,
     table: &mut Table,
     room: &mut usize,
-    moment: Moment,
+    clock: &Clock,
+    shape: Shape,
+    mark: i64,
 ) -> Result<(), AllocError>
-    requires { length table.old.entries ≤ room.old }
-    ensures live { (later : ℤ) → moment.mark ≤ℤ later → live moment.clock moment.shape later table.new.entries ≡ live moment.clock moment.shape later table.old.entries }
+    requires shape { IsShape shape }
+    requires room { length table.old.entries ≤ room.old }
+    ensures live { (later : ℤ) → mark ≤ℤ later → live clock.now shape later table.new.entries ≡ live clock.now shape later table.old.entries }
     ensures room { OnOk result (length table.new.entries < room.new) }
     ensures within { length table.new.entries ≤ room.new }
     ensures buckets { OnOk result (0 < table.new.buckets) }
-    ensures small { (most : ℕ) → length (live moment.clock moment.shape moment.mark table.old.entries) ≤ most
+    ensures small { (most : ℕ) → length (live clock.now shape mark table.old.entries) ≤ most
         → room.old ≤ max (2 * most) least_room → room.new ≤ max (2 * most) least_room }
 {
     if table.len() >= *room || table.buckets() == 0 {
-        forget(alloc, table, room, moment)?;
+        forget(alloc, table, room, clock, shape, mark)?;
     }
     Ok(())
 }
 
-// Drops what can't count any more at a moment, and has room for as many again as there were.
+// Drops what can't count any more at a watermark, and has room for as many again as there were.
 #[cold]
 #[inline(never)]
 fn forget(
+    alloc: Global,
+    table: &mut Table,
+    room: &mut usize,
+    clock: &Clock,
+    shape: Shape,
+    mark: i64,
+) -> Result<(), AllocError>
+    requires { IsShape shape }
+    ensures entries { OnOk result (table.new.entries ≡ live clock.now shape mark table.old.entries) }
+    ensures room { OnOk result (room.new ≡ max (2 * length table.new.entries) least_room) }
+    ensures buckets { OnOk result (0 < table.new.buckets) }
+    ensures table_unchanged { OnErr result (table.new ≡ table.old) }
+    ensures room_unchanged { OnErr result (room.new ≡ room.old) }
+{
+    let moment = Moment {
+        clock: *clock,
+        shape,
+        mark,
+    };
+    if table.is_live(moment) {
+        spread(alloc, table, room)
+    } else {
+        drop_late(alloc, table, room, moment)
+    }
+}
+
+// Has room for as many again as there are, where they stand.
+fn spread(alloc: Global, table: &mut Table, room: &mut usize) -> Result<(), AllocError>
+    ensures entries { OnOk result (table.new.entries ≡ table.old.entries) }
+    ensures room { OnOk result (room.new ≡ max (2 * length table.new.entries) least_room) }
+    ensures buckets { OnOk result (0 < table.new.buckets) }
+    ensures table_unchanged { OnErr result (table.new ≡ table.old) }
+    ensures room_unchanged { OnErr result (room.new ≡ room.old) }
+{
+    let Some(twice) = table.len().checked_mul(2) else {
+        return Err(AllocError);
+    };
+    table.spread(alloc, buckets_for(table.len())?)?;
+    *room = twice.max(LEAST_ROOM);
+    Ok(())
+}
+
+// Drops what can't count any more at a moment, into a table that has room for as many again as there were.
+fn drop_late(
     alloc: Global,
     table: &mut Table,
     room: &mut usize,

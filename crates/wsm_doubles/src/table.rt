@@ -1,6 +1,6 @@
 //! Identifiers that are found by their hashes.
 
-ghost use Rattle.std.specs.Prelude.{◌≡◌, ◌<◌, ◌∷◌, ◌++◌, [], length, map, slice_index_or, IfOk, OnErr, OnOk};
+ghost use Rattle.std.specs.Prelude.{◌≡◌, ◌<◌, ◌∷◌, ◌++◌, [], length, map, slice_index_or, true, IfOk, OnErr, OnOk};
 ghost use Rattle.wsm_doubles.specs.Entries.{Tabled, counts_as, entry_of, hash_of, no_entry};
 ghost use Rattle.wsm_doubles.specs.Memory.{knows, live};
 
@@ -145,6 +145,29 @@ impl Table {
         ensures { result ≡ (slice_index_or self.now.entries number no_entry).1 }
     {
         self.entries.time(number)
+    }
+
+    // Whether all may count at a moment.
+    pub(crate) fn is_live(&self, moment: Moment) -> bool
+        ensures { result ≡ true → live moment.clock moment.shape moment.mark self.now.entries ≡ self.now.entries }
+    {
+        for number in 0..self.entries.len() {
+            if moment.is_late(self.entries.time(number)) {
+                return false;
+            }
+        }
+        true
+    }
+
+    // Has so many buckets.
+    pub(crate) fn spread(&mut self, alloc: Global, buckets: usize) -> Result<(), AllocError>
+        requires { 0 < buckets }
+        ensures spread { OnOk result (self.new ≡ record { entries = self.old.entries; buckets = buckets }) }
+        ensures unchanged { OnErr result (self.new ≡ self.old) }
+    {
+        let chains = self.chains.spread(alloc, buckets)?;
+        self.chains = chains;
+        Ok(())
     }
 
     // What may count at a moment, with so many buckets.

@@ -53,8 +53,7 @@ impl Identifiers {
         requires { time < 2 ^ 63 }
         ensures { (w : Setting) (memory : Memory) → Remembers w mark self.old memory → IfOk result (Passes w mark self.new (Some identifier.now) time memory) }
     {
-        let clock = self.clock;
         self.doubles
-            .pass(identifier, time as i64, &clock, self.shape, mark)
+            .pass(identifier, time as i64, &self.clock, self.shape, mark)
     }
 }

@@ -1,9 +1,12 @@
-use Rattle.std.proofs.Common.{◌∙◌, ap}
+use Rattle.std.proofs.Common.{◌∙◌, ℤ, ap, w64}
+use Rattle.std.proofs.lemmas.Int.{to_z-of_z}
 use Rattle.wsm_doubles.specs.Memory.{Memory, live}
 use Rattle.wsm_doubles.proofs.Forgotten.{live-live}
 use Rattle.wsm_doubles.proofs.doubles.make_room.Goals as goal
 
 pub returns-in_ok-forget-clause-live : goal.returns-in_ok-forget-clause-live
 returns-in_ok-forget-clause-live c = λ later rises.
-    ap (λ (m : Memory). live c.args.moment.clock c.args.moment.shape later m) c.in_ok-forget.ensures.entries
-    ∙ live-live c.args.moment.clock c.args.moment.shape c.args.moment.mark later rises c.args.table.now.entries
+    let entries = c.args.table.now.entries in
+    ap (λ (m : Memory). live c.args.clock.now c.args.shape later m) c.in_ok-forget.ensures.entries
+    ∙ ap (λ (w : ℤ). live c.args.clock.now c.args.shape later (live c.args.clock.now c.args.shape w entries)) (to_z-of_z w64 c.args.mark c.ranges.mark)
+    ∙ live-live c.args.clock.now c.args.shape c.args.mark later rises entries
