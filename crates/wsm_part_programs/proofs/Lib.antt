@@ -1,0 +1,2 @@
+pub mod KeylessRuns
+pub mod Law

@@ -1,0 +1,2 @@
+pub mod Keyless
+pub mod Names
