@@ -2,7 +2,7 @@
 
 usage: many [--parts N] [--columns NAME,..] [--program PROGRAM] QUERY KEYS TABLE
 
-For example: watermarks --bound 120 --step 30 --query invoice.query --keys customers calls.csv | many --columns calls,bytes invoice.query customers invoice.db
+For example: many --columns calls,bytes invoice.query customers invoice.db < calls.csv
 
 QUERY is a query's text without its KEYS clause, and KEYS a file with its keys, one a line, any number of them. `wsm deal`
 deals the rows to N parts, or to as few as are accepted where N is left out; what each part's `wsm run` writes is taken

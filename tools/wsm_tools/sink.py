@@ -27,7 +27,8 @@ QUERY is a text without its KEYS clause, as `many-keys` does whose lines these m
 
 --rows names the file that the run reads, which `keep` may have cut: the lines that the run writes for the rows that
 were kept are passed over, and those behind them go on counting where the lines of all rows stood. --taken prints how
-many lines were taken, once these can't be lost any more: so many may be told to `keep`.
+many lines were taken, once these can't be lost any more: so many may be told to `keep`. With --rows it ends with status 1
+where a run over ROWS writes others, as where a filter stands between the file and the run.
 
 With --live the lines are those of `wsm live DIR`, each with its number and a sum of all up to it: it takes the line whose
 number comes behind those of the table, passes over smaller ones, and tells DIR at most each second, by the file
@@ -35,18 +36,20 @@ taken or taken.NAME there, how many lines are surely on the table's disk, which 
 another sum, or lines of another DIR, query or source end it with status 9 and nothing written, and lines that another
 sink took meanwhile with 8.
 
-What QUERY says is asked of PROGRAM, or where that is left out of the program that the variable WSM names, of `wsm` at
-the top of the repository or of that on PATH. It ends with status 2 by its words, 3, 4 and 6 by QUERY as `wsm` does, 7 where
-the tables can't be read or written. Where the lines end before those that were taken do, or in the middle of one, the
-run was killed: that is status 6 too.
+QUERY must be the run's: lines of another one whose columns have the same types are taken for its own. What QUERY says is
+asked of PROGRAM, or where that is left out of the program that the variable WSM names, of `wsm` at the top of the repository
+or of that on PATH. It ends with status 2 by its words, 3, 4 and 6 by QUERY as `wsm` does, 7 where the tables can't be read
+or written. Where the lines end before those that were taken do, or in the middle of one, the run was killed: that is status
+6 too.
 """
 from __future__ import annotations
 
 import re
 import sys
 import zlib
-from itertools import groupby
+from itertools import groupby, islice
 from operator import methodcaller
+from subprocess import DEVNULL, PIPE, Popen
 from typing import TYPE_CHECKING, Dict, List, NamedTuple, Optional, Sequence
 
 from . import asking, telling
@@ -322,11 +325,26 @@ def take_all(sink: Sink, head: Head) -> None:
         sink.end_run(end)
 
 
+def check_rows(sink: Sink, wsm: str, rows: str) -> None:
+    """A run over the rows must write the lines that were taken: one behind a filter reads others than `keep` judges."""
+    total, last, head = 0, b"", sink.head
+    with Popen([wsm, "run", sink.path, rows], stdout=PIPE, stderr=DEVNULL) as run:
+        assert run.stdout
+        for last in islice(run.stdout, head.own, head.own + sink.lines - head.lines):
+            total = zlib.crc32(last, total)
+        run.kill()
+    is_same = sink.numbered(last.rstrip(b"\n")) == sink.last and (head.lines > 0 or total == sink.sum)
+    if sink.lines > head.lines and not is_same:
+        raise Ended(f"a run over {rows} writes other lines than were taken: cut the very rows that the run reads, with no filter in between")
+
+
 def take(asked: Namespace) -> None:
     """Takes what comes on standard input, or prints how many lines were taken."""
     head, records_kept = kept_in(asked.rows) if asked.rows else (Head(), 0)
     sink = Sink(asked, head, records_kept)
     if asked.taken:
+        if asked.rows:
+            check_rows(sink, asked.program or asking.program(), asked.rows)
         sink.place.secure()
         sink.place.close()
         print(sink.lines)
