@@ -1,13 +1,13 @@
 #!/usr/bin/python3
 """Measures tools/wsm-many-keys: meters that report through a day, in one file of rows and in four by meter.
 
-usage: many_keys.py [--before SCRIPT] FOLDER [PROGRAM [TIMES [ROWS [KEYS]]]]
+usage: many_keys.py FOLDER [PROGRAM [TIMES [ROWS [KEYS]]]]
 
 Writes ROWS rows of KEYS meters to FOLDER, 10,000,000 of 50,000 where they're left out, with a watermark every ten
 seconds of the day, unless rows are there. Then it runs them TIMES times, 5 where it's left out: the one file by four
-workers and by one, and the four files by four workers, in turn; with --before also the one file by four workers of
-another text of the script. Prints the seconds of each and the seconds of processors, with those of all processes that
-it started, and their medians. What is written must be the same each time, and for the four files as for the one.
+workers and by one, and the four files by four workers, in turn. Prints the seconds of each and the seconds of
+processors, with those of all processes that it started, and their medians. What is written must be the same each time,
+and for the four files as for the one.
 """
 import ctypes
 import hashlib
@@ -69,9 +69,9 @@ def processor():
     return used.ru_utime + used.ru_stime
 
 
-def measured(script, folder, program, workers, names):
+def measured(folder, program, workers, names):
     """The seconds of the command, those of processors, and a digest of what it writes."""
-    command = ["/usr/bin/python3", script, "--program", program, "--room", folder, "--workers", str(workers)]
+    command = ["/usr/bin/python3", TOP / "tools/wsm-many-keys", "--program", program, "--room", folder, "--workers", str(workers)]
     words = [*command, folder / "query.wsm", folder / "keys", *(folder / name for name in names)]
     begin, used = time.monotonic(), processor()
     with open(folder / "out", "wb") as out:
@@ -85,8 +85,6 @@ def measured(script, folder, program, workers, names):
 
 def main():
     words = sys.argv[1:]
-    before = [Path(words.pop(1)).absolute() for _ in range(words[0] == "--before")]
-    words = words[len(before):]
     folder = Path(words[0]).absolute()
     program = Path(words[1] if len(words) > 1 else TOP / "wsm").absolute()
     words = words[2:]
@@ -94,15 +92,14 @@ def main():
     if not (folder / "rows.csv").exists():
         write_inputs(folder, rows, keys)
     ctypes.CDLL(None).prctl(ADOPT, 1)
-    script, four = TOP / "tools/wsm-many-keys", [f"rows-{file}.csv" for file in range(FILES)]
     ways = {
-        "one file, 4 workers": (script, 4, ["rows.csv"]), "one file, 1 worker": (script, 1, ["rows.csv"]),
-        "four files, 4 workers": (script, 4, four), **{"before: one file, 4 workers": (it, 4, ["rows.csv"]) for it in before},
+        "one file, 4 workers": (4, ["rows.csv"]), "one file, 1 worker": (1, ["rows.csv"]),
+        "four files, 4 workers": (4, [f"rows-{file}.csv" for file in range(FILES)]),
     }
     found = {way: [] for way in ways}
     for _ in range(times):
-        for way, (its, *asked) in ways.items():
-            found[way].append(measured(its, folder, program, *asked))
+        for way, asked in ways.items():
+            found[way].append(measured(folder, program, *asked))
             print(way, *(f"{seconds:.2f}" for seconds in found[way][-1][:2]), flush=True)
     if len({digest for some in found.values() for *_, digest in some}) > 1:
         sys.exit("what was written differs")
@@ -110,8 +107,6 @@ def main():
     for way, (whole, used) in medians.items():
         print(f"{way}: {whole:.2f} s, of processors {used:.2f} s")
     print(f"four workers are {medians['one file, 1 worker'][0] / medians['one file, 4 workers'][0]:.2f} times as fast as one")
-    for way in list(ways)[3:]:
-        print(f"processors: {medians['one file, 4 workers'][1] / medians[way][1]:.2f} of what it was before")
 
 
 main()

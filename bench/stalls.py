@@ -1,7 +1,7 @@
 #!/usr/bin/env python3
 """Looks for stalls: how many instructions one watermark takes, and how they grow with what it comes to.
 
-usage: stalls.py [--only CASE,..] [--sizes PANES,PANES] [--json FILE] [PROGRAM]
+usage: stalls.py [--only CASE,..] [--sizes PANES,PANES] [PROGRAM]
 
 CASE is panes, istream, dstream, rstream, retracting, standing or sessions; all of them where none is named.
 PROGRAM is the built one where it's left out (crates/wsm_cli/out/wsm_cli).
@@ -14,12 +14,11 @@ PROGRAM is the built one where it's left out (crates/wsm_cli/out/wsm_cli).
 
 Prints a table of millions of instructions (valgrind --tool=callgrind): at both sizes, 49,500 and 99,000 panes where none
 are named, with the growth, how many times the least of panes it is, and the same of the records before. What a rise of
-the standing rows takes comes behind it. With --json, writes all numbers to a file. A run that fails ends it.
+the standing rows takes comes behind it. A run that fails ends it.
 
 example: bench/stalls.py --only panes,rstream
 """
 import argparse
-import json
 import random
 import re
 import shutil
@@ -120,13 +119,12 @@ def main():
     words = argparse.ArgumentParser(description=__doc__, formatter_class=argparse.RawDescriptionHelpFormatter)
     words.add_argument("--only", default=",".join(CASES), metavar="CASE,..")
     words.add_argument("--sizes", default="49500,99000", metavar="PANES,PANES", help=f"multiples of {KEYS}")
-    words.add_argument("--json", metavar="FILE")
     words.add_argument("program", nargs="?", default=TOP / "crates/wsm_cli/out/wsm_cli", metavar="PROGRAM")
     asked = words.parse_args()
     cases, sizes = asked.only.split(","), [int(size) for size in asked.sizes.split(",")]
     if any(case not in CASES for case in cases) or len(sizes) != 2 or any(size % KEYS or not size for size in sizes):
         words.error(f"cases are {', '.join(CASES)}; sizes are two multiples of {KEYS}")
-    program, found, least = Path(asked.program).absolute(), [], None
+    program, least = Path(asked.program).absolute(), None
     for needed in ("valgrind", str(program)):
         if not shutil.which(needed):
             sys.exit(f"stalls.py: no {needed}")
@@ -138,18 +136,12 @@ def main():
             for row in rows_of(form, ORDERS, sizes, lambda order, size: watermark(program, form, order, size, folder)):
                 if form == "panes":
                     least = min(least or row["instructions"][1], row["instructions"][1])
-                found.append(row)
                 print(shown(row, least), flush=True)
         if "sessions" in cases:
             for row in rows_of("sessions", ("rising", "falling", "random"), sizes, lambda order, size: sessions(program, order, size, folder)):
-                found.append(row)
                 print(shown(row, None), flush=True)
         if "standing" in cases:
-            rise = standing(program, folder)
-            found.append({"case": "standing", "instructions": rise})
-            print(f"\n{STANDING} rows that stand, a rise with one change: {rise:,} instructions")
-    if asked.json:
-        Path(asked.json).write_text(json.dumps(found, indent=1) + "\n")
+            print(f"\n{STANDING} rows that stand, a rise with one change: {standing(program, folder):,} instructions")
 
 
 main()

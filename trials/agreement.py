@@ -280,7 +280,7 @@ def written_for(fed, by_rows):
     return [*lines, f"end,{fed.count},{admitted},{late},{refused},{panes}"]
 
 
-def must_write(rules, lines):
+def must_write(rules, lines, fed=None):
     """What a run over a log must write, by trials/reference.py."""
-    fed = fed_of(rules, lines)
+    fed = fed or fed_of(rules, lines)
     return written_for(fed, Stream(Query(rules.query)).text(fed.rows))

@@ -45,13 +45,16 @@ def built_by(program):
     return crates / "wsm_cli/out/wsm_cli" if crates.is_dir() else program.absolute()
 
 
-def run_over(program, folder, rules, log):
-    """The status of a run over the text of a log, and the lines that it writes. What it reads is put into the folder."""
+def run_over(program, folder, rules, log, told=None):
+    """The status of a run over the text of a log, and the lines that it writes; those that it tells are put into a list.
+    What it reads is put into the folder."""
     files = {"query.wsm": rules.query, "source.toml": rules.source, "log": log}
     for name, text in files.items():
         (folder / name).write_text(text)
     query, source, lines = (folder / name for name in files)
     ran = subprocess.run([program, "run", "--from", source, query, lines], capture_output=True, text=True)
+    if told is not None:
+        told += ran.stderr.splitlines()
     return ran.returncode, ran.stdout.splitlines()
 
 

@@ -276,6 +276,23 @@ class Query:
         self.places[name] = begin, t.end
 
     def read(self, t):
+        self.read_declarations(t)
+        expressions = Expressions(t)
+        t.take("SELECT")
+        self.columns = []
+        while True:
+            with self.part(t, f"column {len(self.columns) + 1}"):
+                self.columns.append(expressions.whole())
+            if not t.sees(","):
+                break
+            t.take(",")
+        self.where = self.read_condition(t, expressions, "WHERE")
+        self.having = self.read_condition(t, expressions, "HAVING")
+        self.read_firing(t)
+        if not t.is_of("end"):
+            t.unexpected()
+
+    def read_declarations(self, t):
         if self.keys is None:
             with self.part(t, "keys"):
                 t.take("KEYS")
@@ -307,17 +324,8 @@ class Query:
                 t.take("BUDGET")
                 self.budget = [(t.take(word), t.number())[1] for word in ("RECORD", "PANE", "HELD")]
                 t.take(";")
-        expressions = Expressions(t)
-        t.take("SELECT")
-        self.columns = []
-        while True:
-            with self.part(t, f"column {len(self.columns) + 1}"):
-                self.columns.append(expressions.whole())
-            if not t.sees(","):
-                break
-            t.take(",")
-        self.where = self.read_condition(t, expressions, "WHERE")
-        self.having = self.read_condition(t, expressions, "HAVING")
+
+    def read_firing(self, t):
         with self.part(t, "window"):
             t.take("WINDOW")
             self.shape = t.take("FIXED", "SLIDING", "SESSION")
@@ -333,8 +341,6 @@ class Query:
             t.take("EMIT")
             self.form = t.take("PANES", "ISTREAM", "DSTREAM", "RSTREAM")
             t.take(";")
-        if not t.is_of("end"):
-            t.unexpected()
 
     def read_field(self, t):
         t.take("FIELD")

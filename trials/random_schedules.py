@@ -12,6 +12,8 @@ BROKEN = {
     "json": ('{"key": "k0", "at": 10', "", '{"at": 100001, "n": 1}', '{"key": "k0", "n": 1}', '{"key": "k0", "at": 100000}', "w,100600"),
     "rows": ("w,100600", "", "r,k0,10", "r,k0,100001,", "r,,100001,1", "r,k0,x,1", "r,k0,100001,1,1"),
 }
+NO_CLOCK = ("", [], {}, None, "x" * 256)  # what names none
+IDENTIFIERS = ("", [], {"id": 1}, "x" * 255, "x" * 256, "\u00e9" * 127, "\u00e9" * 128, None, 7, "7")
 STRANGE = ({"key": "zz"}, {"n": MOST_N + 1}, {"n": -1}, {"at": -5}, {"at": LATEST + 1}, {"key": "zz", "at": 10**9})
 
 
@@ -29,7 +31,7 @@ class Told:
     def text(self, rules, **other):
         said = {"key": self.key, "at": self.at, "n": self.n, "id": self.id, **other}
         if rules.gateways:
-            said["via"] = {"gateway": self.clock if self.is_named else ""}
+            said["via"] = {"gateway": self.clock if self.is_named else NO_CLOCK[self.n % len(NO_CLOCK)]}
         return json.dumps(said) if rules.format == "json" else f"r,{said['key']},{said['at']},{said['n']}"
 
 
@@ -62,6 +64,10 @@ class Log:
             clock = self.drawn.choice(self.sending)
             its = Told(self.key_of(clock), self.now, self.number(), f"odd {self.number()}", False, clock)
             self.lines.append(its.text(self.rules, **self.drawn.choice(STRANGE)))
+        elif chance < 0.1 and self.rules.has_identifiers:
+            its = Told(self.drawn.choice(self.rules.keys), self.now, self.number(), "", False, "", False)
+            self.lines.append(its.text(self.rules, id=self.drawn.choice([*IDENTIFIERS, f"id {self.number() - 1}"])))
+            self.greatest = max(self.greatest, self.now)
         elif chance < 0.2 and self.told:
             self.add_double(self.drawn.choice(self.told[-self.drawn.choice([1, 3, 30]):]))
         else:
@@ -137,21 +143,55 @@ class Log:
         self.lines.append(its.text(self.rules, **other))
 
 
+def window_of(drawn, size):
+    """The period of a window, 0 of sessions, and its words: mostly of one in which each record fires by itself."""
+    mode = drawn.choice(["ACCUMULATING", "ACCUMULATING", "DISCARDING", "RETRACTING"])
+    if drawn.random() < 0.7:
+        return size, f"FIXED {size} {mode} EARLY EVERY 1 LATE EVERY 1"
+    period = drawn.choice([0, size, -(-size // 3), -(-2 * size // 3)])
+    shape = f"SLIDING {size} EVERY {period}" if period else f"SESSION {size}"
+    return period, f"{shape} {mode}{drawn.choice(['', ' EARLY EVERY 3', ' LATE EVERY 1', ' EARLY EVERY 2 LATE EVERY 2'])}"
+
+
 def rules_of(drawn):
-    """Rules, with gateways that stamp the records of any key in a third of the logs of JSON."""
+    """Rules, with gateways that stamp the records of any key in a third of the logs of JSON, and some without clocks."""
     bound, step, size = drawn.choice([0, 1, 10, 60, 120]), drawn.choice([1, 7, 30, 60]), drawn.choice([1, 30, 60, 600])
     form = drawn.choice(["json", "json", "rows"])
-    mode = drawn.choice(["ACCUMULATING", "ACCUMULATING", "DISCARDING", "RETRACTING"])
-    gateways = [f"gw {at}" for at in range(drawn.randrange(2, 7))] if form == "json" and drawn.random() < 0.33 else []
+    has_clocks = form == "rows" or drawn.random() < 0.9
+    period, window = window_of(drawn, size)
+    gateways = [f"gw {at}" for at in range(drawn.randrange(2, 7))] if form == "json" and has_clocks and drawn.random() < 0.33 else []
     return Rules(
         keys=[f"k{at}" for at in range(drawn.randrange(2, 10))], agree=drawn.choice([1, 2, 2, 3, 3, 4]), bound=bound, step=step,
         forget=drawn.choice([1, 2, 5, 12, 30, 1000000, 1000000]), room=drawn.choice([0, 1, 3, 1000, 1000]),
         start=drawn.choice([0, BEGIN - 1000, BEGIN - 100, BEGIN]), skew=bound + step - 1 + drawn.choice([0, 1, 50, 1000]),
-        lateness=drawn.choice([0, 0, 10, 300, 1500]), from_window=drawn.random() < 0.2, size=size, period=size,
-        window=f"FIXED {size} {mode} EARLY EVERY 1 LATE EVERY 1", most=MOST_N, format=form,
+        lateness=drawn.choice([0, 0, 10, 300, 1500]), from_window=period > 0 and drawn.random() < 0.2, size=size, period=period,
+        window=window, most=MOST_N, format=form, records=drawn.choice([100000, 100000, 100000, 20]), has_clocks=has_clocks,
         has_identifiers=form == "json" and drawn.random() < 0.7, gateways=gateways,
-        named=len(gateways) if gateways and drawn.random() < 0.5 else None,
+        named=drawn.choice([None, len(gateways), len(gateways) - 1]) if gateways else None,
     )
+
+
+def plain_log(number, keys, wrong, ahead, **more):
+    """So many lines, in turn of each key or of each gateway, of which some are ahead, all the time."""
+    rules = Rules(**{**{
+        "keys": keys, "agree": 2, "bound": 60, "step": 30, "forget": 1000000, "room": 1000, "start": BEGIN - 100, "skew": 89, "lateness": 0,
+        "from_window": False, "size": 600, "period": 600, "window": "FIXED 600 ACCUMULATING EARLY EVERY 1 LATE EVERY 1", "most": number,
+    }, **more})
+    log = Log(random.Random(0), rules)
+    for at in range(number):
+        its = Told(keys[7 * at % len(keys)], BEGIN + at // 2 + ahead * wrong(at), at + 1, "", not wrong(at), rules.clocks[7 * at % len(rules.clocks)])
+        log.lines.append(its.text(rules))
+        log.right.update([at + 1] * its.is_right)
+    return log
+
+
+def plain_logs():
+    """One clock of 800 that is seven minutes ahead, one line that is an hour ahead, and two wrong gateways of five."""
+    return {
+        "one of 800": plain_log(2400, [f"s{at}" for at in range(800)], lambda at: at % 800 == 7, 420),
+        "one line": plain_log(500, list("abcde"), lambda at: at == 100, 3600),
+        "two gateways of five": plain_log(1000, [f"k{at}" for at in range(40)], lambda at: at % 5 < 2, 3600, agree=3, gateways=list("vwxyz"), named=5),
+    }
 
 
 def log_of(seed):

@@ -5,7 +5,6 @@ are those of docs/SOURCES.md. Where nothing stands there is no text, and ODD is 
 """
 from __future__ import annotations
 
-import json
 import re
 from enum import Enum
 from typing import Any, Callable, Dict, List, NamedTuple, NoReturn, Optional, Sequence, Tuple, Union
@@ -84,6 +83,8 @@ def put_members(value: Dict[str, Any], names: List[str], cells: Cells) -> None:
 
 
 def json_cells(text: str) -> Optional[Cells]:
+    import json
+
     cells: Cells = {}
     try:
         value = json.loads(text, parse_int=Number, parse_float=Number, parse_constant=refuse)

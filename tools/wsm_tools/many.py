@@ -24,52 +24,35 @@ import contextlib
 import os
 import resource
 import signal
-import subprocess
 import sys
-from pathlib import Path
 from threading import Thread
 from typing import TYPE_CHECKING, Any, Dict, List, Optional, Sequence
 
 from . import asking, telling
-from .parted import Parted, first_parts, is_of_query
+from .parted import Parted, put
 from .telling import BAD_READ, BAD_WORDS, Ended, Signals, Stopped, shown
 
 if TYPE_CHECKING:
     from argparse import Namespace
+    from subprocess import Popen
 
-SINK = Path(__file__).resolve().parent.parent / "wsm-sink"
 AT_ONCE = 1 << 16   # bytes of rows that are handed on at once
 WITH_PARENT = 1     # the call of prctl by which a process gets a signal where its parent ends
 
 
-def parts_of(asked: Namespace, folder: Path) -> List[Path]:
+def parts_of(asked: Namespace, folder: str) -> List[str]:
     """The query of each part, in a file."""
     from concurrent.futures import ThreadPoolExecutor
 
-    parted, sample = Parted(asked.program, asked.query, asked.keys), folder / "sample.wsm"
-
-    def refusal(parts: int, number: int) -> Optional[Ended]:
-        sample.write_text(parted.text_of(parts, number), encoding="latin-1")
-        try:
-            parted.answer("verify", "--query", str(sample))
-        except Ended as why:
-            if not is_of_query(why):
-                raise
-            return why
-        return None
-
-    def is_taken(parts: int) -> bool:
-        return not any(refusal(parts, number) for number in first_parts(parted, parts))
-
-    parts = parted.nearest(asked.parts) if asked.parts else parted.fewest(is_taken)
+    parted, sample = Parted(asked.program, asked.query, asked.keys), os.path.join(folder, "sample.wsm")
+    parts = parted.nearest(asked.parts) if asked.parts else parted.fewest(lambda some: parted.is_accepted(some, sample))
     if asked.parts not in (None, parts):
         raise Ended(f"{asked.keys} can't be dealt to {asked.parts} parts: {parts} would do", BAD_WORDS)
-    if why := refusal(parts, 0):
-        raise why
-    queries = [folder / f"part{number}.wsm" for number in range(parts)]
+    parted.judge(sample, parts, 0)
+    queries = [os.path.join(folder, f"part{number}.wsm") for number in range(parts)]
     with ThreadPoolExecutor(os.cpu_count()) as pool:
         for query, text in zip(queries, pool.map(lambda number: parted.text_of(parts, number), range(parts))):
-            query.write_text(text, encoding="latin-1")
+            put(query, text)
     return queries
 
 
@@ -80,9 +63,9 @@ class Processes:
     ended well: so no other end is taken for the end of the rows, and the one that ends first is the one that is told.
     """
 
-    def __init__(self, asked: Namespace, queries: Sequence[Path], folder: Path) -> None:
-        self.asked, self.rows = asked, folder / "rows"
-        self.begun: List[subprocess.Popen[bytes]] = []
+    def __init__(self, asked: Namespace, queries: Sequence[str], folder: str) -> None:
+        self.asked, self.rows = asked, os.path.join(folder, "rows")
+        self.begun: List[Popen[bytes]] = []
         self.name_of: Dict[int, str] = {}
         self.held_for: Dict[int, Sequence[int]] = {}
         self.pipes: List[int] = []
@@ -94,7 +77,7 @@ class Processes:
         for number, query in enumerate(queries):
             self.begin_part(number, query)
         rows, self.dealt = os.pipe()
-        dealer = [asked.program, "deal", asked.keys, str(len(queries)), str(self.rows)]
+        dealer = [asked.program, "deal", asked.keys, str(len(queries)), self.rows]
         self.begin("the dealer", dealer, self.pipes, stdin=rows)
         os.close(rows)
         Thread(target=self.hand_on, daemon=True).start()
@@ -113,13 +96,13 @@ class Processes:
             self.fault = why
         os.close(self.dealt)
 
-    def begin_part(self, number: int, query: Path) -> None:
+    def begin_part(self, number: int, query: str) -> None:
         asked, rows = self.asked, self.pipe(f"{self.rows}{number}")
         lines, written = os.pipe()
         columns = ["--columns", asked.columns] if asked.columns else []
-        sink = [sys.executable, str(SINK), "--part", f"p{number}", *columns, asked.table, str(query)]
+        sink = [sys.executable, asking.lies_at("tools", "wsm-sink"), "--part", f"p{number}", *columns, asked.table, query]
         self.begin(f"the sink of part {number}", sink, stdin=lines)
-        self.begin(f"the run of part {number}", [asked.program, "run", str(query)], [written], stdin=rows, stdout=written)
+        self.begin(f"the run of part {number}", [asked.program, "run", query], [written], stdin=rows, stdout=written)
 
     def pipe(self, path: str) -> int:
         """The end of a named pipe from which rows are read; the other end is held open."""
@@ -130,8 +113,10 @@ class Processes:
         return rows
 
     def begin(self, name: str, words: Sequence[str], held: Sequence[int] = (), **pipes: Any) -> None:
+        from subprocess import Popen
+
         around = {**os.environ, "WSM": self.asked.program}  # which the sinks ask
-        process = subprocess.Popen(words, preexec_fn=self.end_with_parent, env=around, **pipes)
+        process = Popen(words, preexec_fn=self.end_with_parent, env=around, **pipes)
         self.begun.append(process)  # else it would be waited for where it is dropped
         self.name_of[process.pid], self.held_for[process.pid] = name, held
 
@@ -195,7 +180,7 @@ def main() -> int:
     most = resource.getrlimit(resource.RLIMIT_NOFILE)[1]
     resource.setrlimit(resource.RLIMIT_NOFILE, (most, most))    # each part takes four
     with TemporaryDirectory(prefix="many-") as folder:
-        processes = Processes(asked, parts_of(asked, Path(folder)), Path(folder))
+        processes = Processes(asked, parts_of(asked, folder), folder)
         try:
             Signals.is_waiting = True
             processes.wait()

@@ -19,11 +19,8 @@ from __future__ import annotations
 
 import mmap
 import os
-import pickle
 import re
 import resource
-import shutil
-import subprocess
 import sys
 import warnings
 from array import array
@@ -33,13 +30,12 @@ from contextlib import ExitStack, contextmanager, suppress
 from importlib import import_module
 from itertools import chain, pairwise, takewhile, zip_longest
 from operator import sub
-from pathlib import Path
 from typing import (
     IO, TYPE_CHECKING, Any, BinaryIO, Callable, Dict, Iterator, List, NamedTuple, Optional, Sequence, Tuple, TypeVar, Union,
 )
 
 from . import asking, telling
-from .parted import Parted, first_parts, is_of_query
+from .parted import Parted, put
 from .telling import Ended, tell
 
 if TYPE_CHECKING:
@@ -138,7 +134,9 @@ def written(path: str) -> Iterator[IO[bytes]]:
 
 def asked_of(words: Sequence[str], feed: Optional[Callable[[int], None]] = None, **pipes: Any) -> None:
     """Runs a program, over what is fed to a pipe where something is."""
-    with subprocess.Popen(words, stdin=subprocess.PIPE, stderr=subprocess.PIPE, **pipes) as process:
+    from subprocess import PIPE, Popen
+
+    with Popen(words, stdin=PIPE, stderr=PIPE, **pipes) as process:
         with suppress(BrokenPipeError):
             if feed is not None:
                 feed(process.stdin.fileno())  # type: ignore[union-attr]
@@ -220,6 +218,8 @@ def run(program: str, path: str, dealt: Sequence[str], watermarks: int, marks: i
     What is written has neither marks nor refused rows; where its pieces end, stands in a file beside it. The refused
     rows stand in another one; a watermark that is refused is refused in each part, and told by the first.
     """
+    import pickle
+
     raw = attempt_of(path)
 
     def feed(pipe: int) -> None:
@@ -329,6 +329,8 @@ def numbered(files: Sequence[Share], wanted: Wanted) -> List[Tuple[int, int, byt
 
 def number(files: Sequence[Share], refused: Sequence[str], out: str) -> None:
     """Writes the lines of refused rows as a part has what it wrote, and where each piece of them ends."""
+    import pickle
+
     wanted: Wanted = defaultdict(list)
     cuts: Dict[int, int] = {}
     size = 0
@@ -433,7 +435,7 @@ def closing_quietly(client: Any) -> Iterator[Any]:
 
 
 @contextmanager
-def client_of(asked: Namespace, room: Path) -> Iterator[Any]:
+def client_of(asked: Namespace, room: str) -> Iterator[Any]:
     try:
         dask, distributed = import_module("dask"), import_module("distributed")
     except ImportError:
@@ -475,21 +477,21 @@ def each(client: Any, told: str, task: Callable[..., T], works: Sequence[Sequenc
 # ---- the whole, step by step
 
 class Job:
-    def __init__(self, asked: Namespace, room: Path, client: Any, parted: Parted, parts: int) -> None:
+    def __init__(self, asked: Namespace, room: str, client: Any, parted: Parted, parts: int) -> None:
         self.asked, self.room, self.client, self.parted, self.parts = asked, room, client, parted, parts
-        self.keys = str(asked.keys.absolute())
+        self.keys = os.path.abspath(asked.keys)
+
+    def place(self, name: str) -> str:
+        return os.path.join(self.room, name)
 
     def path(self, part: int, form: str) -> str:
-        return str(self.room / f"part-{part}-{form}")
+        return self.place(f"part-{part}-{form}")
 
     def look(self) -> List[Share]:
         """The files of rows, each as the program deals it to one part where it isn't so, with their bounds."""
-        key = self.room / "key"
-        key.write_text(f"{self.parted.names[0]}\n", encoding="latin-1")
-        works = [
-            (self.asked.program, str(key), str(rows), str(self.room / f"rows-{file}"))
-            for file, rows in enumerate(self.asked.rows)
-        ]
+        key = self.place("key")
+        put(key, f"{self.parted.names[0]}\n")
+        works = [(self.asked.program, key, rows, self.place(f"rows-{file}")) for file, rows in enumerate(self.asked.rows)]
         found = each(self.client, "files looked through:", look, works)
         first, *others = (rows_of(marks) for *_, marks in found)
         for path, marks in zip(self.asked.rows[1:], others):
@@ -520,7 +522,7 @@ class Job:
         works = []
         for first, last in pairwise(sorted(cuts)):
             shares = [(path, bounds[2 * first:2 * last + 1]) for path, bounds in files]
-            works.append((self.asked.program, self.keys, self.parts, shares, marks, str(self.room / f"dealt-{first}-")))
+            works.append((self.asked.program, self.keys, self.parts, shares, marks, self.place(f"dealt-{first}-")))
         each(self.client, "rows dealt:", deal, works)
         return [str(work[-1]) for work in works]
 
@@ -535,7 +537,7 @@ class Job:
 
     def number(self, files: Sequence[Share], form: str) -> str:
         """The path of the lines of refused rows, which have their numbers among all rows, one file behind the other."""
-        out, refused = str(self.room / "refused"), [f"{self.path(part, form)}.refused" for part in range(self.parts)]
+        out, refused = self.place("refused"), [f"{self.path(part, form)}.refused" for part in range(self.parts)]
         each(self.client, "refused rows numbered:", number, [(files, refused, out)])
         return out
 
@@ -546,7 +548,7 @@ class Job:
         paths = [told, *(self.path(part, forms[0]) for part in range(self.parts))]
         others = [self.path(part, form) for form in forms[1:] for part in range(self.parts)]
         works = [
-            (paths, others, first, last, self.keys, types, str(self.room / f"merged-{first}"))
+            (paths, others, first, last, self.keys, types, self.place(f"merged-{first}"))
             for first, last in pairwise(pieces * at // count for at in range(count + 1))
         ]
         each(self.client, "pieces merged:", merge, works)
@@ -578,45 +580,23 @@ def end_row(query: asking.Query, ran: Sequence[Sequence[Ran]], watermarks: int, 
     return f"end,{rows + watermarks},{admitted},{late},{refused.total()},{panes}\n"
 
 
-class Judge:
-    """Has the queries of parts verified, in the room."""
-
-    def __init__(self, parted: Parted, room: Path) -> None:
-        self.parted, self.room = parted, room
-
-    def check(self, text: str, path: Union[str, Path]) -> None:
-        Path(f"{path}.wsm").write_text(text, encoding="latin-1")
-        self.parted.answer("verify", "--query", f"{path}.wsm")
-
-    def is_taken(self, parts: int) -> bool:
-        """Whether parts are accepted, by the first ones: of these one has as many keys as any has."""
-        try:
-            for number in first_parts(self.parted, parts):
-                self.check(self.parted.text_of(parts, number), self.room / "sample")
-        except Ended as why:
-            if not is_of_query(why):
-                raise
-            return False
-        return True
-
-
-def answer(asked: Namespace, room: Path, out: BinaryIO) -> None:
+def answer(asked: Namespace, room: str, out: BinaryIO) -> None:
     from concurrent.futures import ThreadPoolExecutor
+    from shutil import copyfileobj
 
-    parted = Parted(asked.program, str(asked.query), str(asked.keys))
-    judge, one = Judge(parted, room), parted.text_of(parted.nearest(len(parted.names)), 0)
-    judge.check(one, room / "sample")
+    parted, sample = Parted(asked.program, asked.query, asked.keys), os.path.join(room, "sample.wsm")
+    parted.judge(sample, parted.nearest(len(parted.names)), 0)
     query = parted.query()
     forms = FORMS.get(query.form, [query.form])
     types = [ranks_of(query, column) for column in query.columns]
     with client_of(asked, room) as client:
         tell(f"workers: {len(client.scheduler_info()['workers'])}")
-        job = Job(asked, room, client, parted, parted.fewest(judge.is_taken, asked.most))
+        job = Job(asked, room, client, parted, parted.fewest(lambda parts: parted.is_accepted(parts, sample), asked.most))
         allow_files()
-        parted.deal_keys(job.parts, room / "keys-")
+        parted.deal_keys(job.parts, job.place("keys-"))
         with ThreadPoolExecutor(os.cpu_count()) as pool:
             works = [(part, form) for part in range(job.parts) for form in forms]
-            list(pool.map(lambda its: judge.check(parted.text_of(job.parts, *its), job.path(*its)), works))
+            list(pool.map(lambda its: parted.judge(f"{job.path(*its)}.wsm", job.parts, *its), works))
         tell(f"parts accepted: {job.parts}")
         files = job.look()
         job.check_keys(files)
@@ -626,7 +606,7 @@ def answer(asked: Namespace, room: Path, out: BinaryIO) -> None:
         merged = job.merge(forms, ran, 2 * watermarks + 1, job.number(files, forms[0]), types)
     for path in merged:
         with open(path, "rb") as file:
-            shutil.copyfileobj(file, out, 1 << 20)
+            copyfileobj(file, out, 1 << 20)
     out.write(end.encode())
     out.flush()
 
@@ -639,19 +619,22 @@ def positive(word: str) -> int:
 
 
 def words() -> Namespace:
+    from shutil import which
+
     parser = telling.parser_of("many-keys", __doc__)
     parser.add_argument("--keys", dest="most", type=positive)
     parser.add_argument("--workers", type=positive, default=len(os.sched_getaffinity(0)))
     parser.add_argument("--scheduler")
-    parser.add_argument("--room", type=Path)
+    parser.add_argument("--room")
     parser.add_argument("--block", type=positive, default=1 << 23)
     parser.add_argument("--program", default=asking.program())
-    parser.add_argument("query", type=Path)
-    parser.add_argument("keys", type=Path)
-    parser.add_argument("rows", type=Path, nargs="+")
+    parser.add_argument("query")
+    parser.add_argument("keys")
+    parser.add_argument("rows", nargs="+")
     asked = parser.parse_args()
-    asked.program, asked.rows = shutil.which(asked.program) or asked.program, [path.absolute() for path in asked.rows]
-    asked.program = str(Path(asked.program).absolute())  # workers elsewhere have other folders
+    asked.query, asked.keys = map(os.path.normpath, (asked.query, asked.keys))
+    asked.rows = [*map(os.path.abspath, asked.rows)]
+    asked.program = os.path.abspath(which(asked.program) or asked.program)  # workers elsewhere have other folders
     return asked
 
 
@@ -661,7 +644,7 @@ def main() -> int:
     asked = words()
     try:
         with TemporaryDirectory("", "many-keys-", asked.room, ignore_cleanup_errors=True) as room:
-            answer(asked, Path(room).absolute(), sys.stdout.buffer)
+            answer(asked, os.path.abspath(room), sys.stdout.buffer)
     except OSError as why:
         raise Ended(str(why)) from None
     return 0

@@ -3,16 +3,16 @@ from __future__ import annotations
 
 import re
 from bisect import bisect_left
-from pathlib import Path
-from typing import Callable, Dict, List, Optional, Tuple, Union
+from typing import Callable, Dict, Optional, Tuple
 
 from .asking import Answer, Query, asked_of, read
 from .telling import BAD_QUERY, REJECTED, Ended
 
 
-def is_of_query(why: Ended) -> bool:
-    """Whether a query was refused, and not anything else in the way."""
-    return why.status in (BAD_QUERY, REJECTED)
+def put(path: str, text: str) -> None:
+    """Writes a text of one byte a letter to a file."""
+    with open(path, "w", encoding="latin-1") as file:
+        file.write(text)
 
 
 def without_keys(told: str) -> str:
@@ -40,10 +40,10 @@ class Parted:
             self.clauses[place] = self.answer("deal", "--keys-of", self.keys, str(parts), str(number))
         return self.clauses[place]
 
-    def deal_keys(self, parts: int, out: Union[str, Path]) -> None:
+    def deal_keys(self, parts: int, out: str) -> None:
         """Asks for the clauses of all parts at once: the program deals the keys as rows, to files of this name."""
-        Path(f"{out}rows").write_text("".join(f"r,{name}\n" for name in self.names), encoding="latin-1")
-        self.answer("deal", self.keys, str(parts), str(out), f"{out}rows")
+        put(f"{out}rows", "".join(f"r,{name}\n" for name in self.names))
+        self.answer("deal", self.keys, str(parts), out, f"{out}rows")
         for number in range(parts):
             names = ", ".join(row.removeprefix("r,") for row in read(f"{out}{number}").splitlines())
             self.clauses[parts, number] = f"KEYS {names};"
@@ -85,6 +85,22 @@ class Parted:
             raise Ended(f"{self.path}: {without_keys(answer.fault['told'])}", BAD_QUERY)
         return Query(answer, self.names)
 
+    def judge(self, path: str, parts: int, number: int, form: Optional[str] = None) -> None:
+        """Writes the query of a part, which the program must accept."""
+        put(path, self.text_of(parts, number, form))
+        self.answer("verify", "--query", path)
+
+    def is_accepted(self, parts: int, path: str) -> bool:
+        """Whether all parts are, by the first ones, which are written there: of these one has as many keys as any has."""
+        try:
+            for number in range(min(parts, len(self.named) + 1)):
+                self.judge(path, parts, number)
+        except Ended as why:
+            if why.status not in (BAD_QUERY, REJECTED):
+                raise
+            return False
+        return True
+
     def fewest(self, is_taken: Callable[[int], bool], most: Optional[int] = None) -> int:
         """The least number of parts that is taken, of at most so many keys where that is said; no part has more than the program takes."""
         count = len(self.names)
@@ -92,8 +108,3 @@ class Parted:
         while high < count and not is_taken(self.nearest(high)):
             low, high = high + 1, min(2 * high, count)
         return self.nearest(bisect_left(range(high + 1), True, low, high, key=lambda parts: is_taken(self.nearest(parts))))
-
-
-def first_parts(parted: Parted, parts: int) -> List[int]:
-    """The parts by which all are judged: of the first ones, one has as many keys as any has."""
-    return list(range(min(parts, len(parted.named) + 1)))

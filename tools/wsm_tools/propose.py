@@ -42,7 +42,6 @@ import os
 import re
 import sys
 from bisect import bisect_left, insort
-from pathlib import Path
 from typing import TYPE_CHECKING, Callable, Dict, Iterable, Iterator, List, Mapping, NamedTuple, Optional, Sequence, Set, Tuple
 
 from . import asking, telling
@@ -515,7 +514,7 @@ def proposed(log: Log, asked: Namespace) -> Proposal:
     clock = clock_of(events, clocks.at_once + 1 if clocks else 2 if wrong and len(names) > 2 else 1, asked)
     if clocks:
         tell_of_clocks(clocks, clock)
-    said_key = {"at": key.place, **({"names": names_file(asked.source).name} if has_table else {})}
+    said_key = {"at": key.place, **({"names": os.path.basename(names_file(asked.source))} if has_table else {})}
     said_time = {"at": time.place, "form": form, **({} if has_zone(form) else {"zone": asked.zone})}
     if zone.folds:
         tell(f"{zone.folds} times are told twice by the clock of {zone.name}: the first of the two is taken")
@@ -559,13 +558,14 @@ def head_of(keys: Sequence[str], fields: Sequence[LogField], events: Sequence[Ev
     return "\n".join([f"KEYS {', '.join(keys)};", *(field.clause for field in fields), last]) + "\n"
 
 
-def names_file(source: str) -> Path:
-    return Path(source).with_suffix(".names.csv")
+def names_file(source: str) -> str:
+    return f"{os.path.splitext(os.path.normpath(source))[0]}.names.csv"
 
 
-def written(path: Path, text: str) -> None:
+def written(path: str, text: str) -> None:
     try:
-        path.write_bytes(text.encode())
+        with open(path, "wb") as file:
+            file.write(text.encode())
     except OSError as why:
         raise Ended(f"{path}: {why.strerror}", BAD_WRITE) from None
 
@@ -579,18 +579,18 @@ def program() -> Optional[str]:
 
 def tried(found: Proposal, asked: Namespace) -> int:
     """Whether the program takes the source and the head together, as a status."""
-    import tempfile
+    from tempfile import TemporaryDirectory
 
     wsm = program()
     if wsm is None:
         tell("no program is there that says whether the two go together")
         return 0
-    with tempfile.TemporaryDirectory() as room:
-        source, query = Path(asked.source or Path(room) / "log.toml"), Path(room) / "head.wsm"
+    with TemporaryDirectory() as room:
+        source, query = asked.source or os.path.join(room, "log.toml"), os.path.join(room, "head.wsm")
         written(query, f"{found.head}SELECT COUNT(*) WINDOW FIXED 3600 ACCUMULATING EMIT PANES;\n")
         if asked.source is None:
             written(source, found.source)
-        ran = asking.asked_of(wsm, "verify", "--query", "--from", str(source), str(query))
+        ran = asking.asked_of(wsm, "verify", "--query", "--from", source, query)
     if ran.returncode:
         told = (ran.stdout + ran.stderr).encode("latin-1").decode("utf-8", "replace").strip()
         tell(f"refused with WINDOW FIXED 3600: {told}")
@@ -602,7 +602,7 @@ def propose(log: Log, asked: Namespace) -> int:
     if asked.source is None:
         sys.stdout.write(f"{found.source}# QUERY\n")
     else:
-        written(Path(asked.source), found.source)
+        written(os.path.normpath(asked.source), found.source)
         if found.names is not None:
             written(names_file(asked.source), found.names)
             tell(f"{names_file(asked.source)} gives keys to names that can't be keys")

@@ -20,7 +20,6 @@ variable WSM doesn't name it and it is left out.
 """
 from __future__ import annotations
 
-import json
 import os
 import re
 import sys
@@ -141,16 +140,18 @@ class Csv:
 
 class Json:
     def __init__(self, lines: Lines) -> None:
-        self.names, self.head = lines.names, ""
+        from json import dumps
+
+        self.names, self.head, self.dumps = lines.names, "", dumps
 
     def row(self, cells: Sequence[Cell]) -> str:
-        return json.dumps(dict(zip(self.names, cells))) + "\n"
+        return self.dumps(dict(zip(self.names, cells))) + "\n"
 
     def other(self, line: str) -> Optional[str]:
         tag, *cells = line.split(",")
-        if tag == "refused":
-            return json.dumps({"refused": int(cells[0]), "word": cells[1]}) + "\n"
-        return json.dumps({"end": dict(zip(ENDED, map(int, cells)))}) + "\n"
+        is_refused = tag == "refused"
+        said = {"refused": int(cells[0]), "word": cells[1]} if is_refused else {"end": dict(zip(ENDED, map(int, cells)))}
+        return self.dumps(said) + "\n"
 
 
 Form = Union[Table, Csv, Json]
