@@ -7,7 +7,7 @@ ghost use Rattle.wsm_program.specs.Program.{Program as AnyProgram};
 ghost use Rattle.wsm_machine.specs.Meaning.{query_of};
 ghost use Rattle.wsm_keep.specs.Staying.{row_of, staying};
 ghost use Rattle.wsm_keep.specs.Holds.{Written, read, text_of};
-ghost use Rattle.wsm_keep.specs.Keeper.{AreAdded, IsTold, takes as takes_what};
+ghost use Rattle.wsm_keep.specs.Keeper.{AreAdded, IsTold, SelectsTaken, takes as takes_what};
 ghost use Rattle.wsm_cut.specs.Cutter.{Fits, IsReady};
 
 use std::alloc::{AllocError, Global};
@@ -72,7 +72,8 @@ impl Cutter {
     /// The rows that stay, the oldest first.
     pub fn finish(self) -> Result<Queue, AllocError>
         requires { IsReady self }
-        ensures { (p : AnyProgram) (rows : List Written) → Fits p self rows → IfOk result (λ queue. map row_of queue ≡ map text_of (staying read (query_of p) rows)) }
+        ensures texts { (p : AnyProgram) (rows : List Written) → Fits p self rows → IfOk result (λ queue. map row_of queue ≡ map text_of (staying read (query_of p) rows)) }
+        ensures selected { (p : AnyProgram) (rows : List Written) → Fits p self rows → IfOk result (SelectsTaken (query_of p) rows) }
     {
         self.keeper.finish()
     }

@@ -2,6 +2,9 @@
 use Rattle.std.proofs.Common.{◌≡◌, ℕ, false, List, [], ◌++◌, length, map, ◌-ℤ◌, Result, Ok, Err, OnOk, refl, sym, ap, subst, ◌∙◌, append_assoc}
 use Rattle.std.proofs.lemmas.List.{length-map, map-append}
 use Rattle.std.specs.Prelude.{filter}
+use Rattle.wsm_record.specs.Event.{Event}
+use Rattle.wsm_admission.specs.Clock.{admitted_count}
+use Rattle.wsm_semantics.specs.Needed.{needed, needed_by, needed_by_panes}
 use Rattle.wsm_semantics.specs.Query.{Query}
 use Rattle.wsm_semantics.specs.FromWatermark.{Times, dropped_time, dropped_times}
 use Rattle.wsm_keep.specs.declared.keeper.Keeper.{Keeper}
@@ -10,12 +13,13 @@ use Rattle.wsm_keep.specs.declared.what.What.TheVariants.{Selected, Accepted, Id
 use Rattle.wsm_record.specs.declared.words.Form.{Form}
 use Rattle.wsm_record.specs.declared.words.Form.TheVariants.{Panes, Istream, Dstream, Rstream}
 use Rattle.wsm_keep.specs.Staying.{events_in, row_of, thinned, done_by, staying, staying_for, staying_for_panes}
-use Rattle.wsm_keep.specs.Holds.{Written, read, text_of, times_in, Holds}
+use Rattle.wsm_keep.specs.Holds.{Written, Queued, read, text_of, times_in, selected_in, Holds}
 use Rattle.wsm_keep.specs.Items.{joined}
 use Rattle.wsm_keep.specs.Keeper.{says_event, AreAdded, Fits, IsCut, IsOf, IsLawfulQuery, HasSettings, takes}
 use Rattle.wsm_keep.proofs.Items.{joined-append}
 use Rattle.wsm_keep.proofs.Thinning.{thinned_same}
-use Rattle.wsm_keep.proofs.Queues.{queue_decides, holds_cut, queue_staying}
+use Rattle.wsm_keep.proofs.Queues.{queue_decides, holds_cut, queue_staying, queue_selected}
+use Rattle.wsm_keep.proofs.SelectedRows.{no_events}
 use Rattle.wsm_keep.proofs.Behind.{behind_texts}
 
 pub settings_of : (q : Query) (old new : Keeper) → HasSettings old new → IsOf q old → IsOf q new
@@ -53,6 +57,7 @@ module _ (q : Query) (lawful : IsLawfulQuery q) (k new : Keeper) (rows : List Wr
           };
         };
         texts = ap (map row_of) are ∙ queue_staying q lawful.shape older k.queue fits.queues.holds;
+        selected = ap selected_in are ∙ queue_selected q lawful.shape older k.queue fits.queues.holds;
       }
 
 -- behind a cut all that waits stays
@@ -63,6 +68,18 @@ end_is q k rows cut =
     ∙ (λ i. (ap (map row_of) queues.since ∙ behind_texts q queues.newer queues.older) i ++ cut.texts i)
     ∙ sym (map-append text_of (filter says_event queues.newer) (staying_for_panes read q queues.older))
     ∙ ap (map text_of) (sym queues.stays)
+
+-- where panes are written as many of it select a record as are taken of the needed events
+pub end_selected : (q : Query) (k : Keeper) (rows : List Written) → IsCut q k rows → q.form ≡ Panes → selected_in (k.since ++ k.queue) ≡ admitted_count q.clock q.shape q.declared (needed q (events_in read rows))
+end_selected q k rows cut panes =
+    let queues = cut.fits.queues in
+    let count : List Event → ℕ = λ es. admitted_count q.clock q.shape q.declared es in
+    let alone : k.since ≡ [] = queues.alone panes in
+    let older : events_in read rows ≡ events_in read queues.older = ap (events_in read) queues.split ∙ no_events q queues.newer queues.older (sym queues.since ∙ alone) in
+    ap (λ (since : List Queued). selected_in (since ++ k.queue)) alone
+    ∙ cut.selected
+    ∙ ap (λ (es : List Event). count (needed_by_panes q es)) (sym older)
+    ∙ ap (λ (f : Form). count (needed_by f q (events_in read rows))) (sym panes)
 
 -- so the texts of what was queued, and behind them of what waits, are theirs
 pub added_is : (q : Query) (k : Keeper) (rows : List Written) → IsCut q k rows → (old new : List ℕ) → new ≡ (old ++ joined (map row_of k.queue)) ++ joined (map row_of k.since) →

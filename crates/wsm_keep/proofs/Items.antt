@@ -1,10 +1,14 @@
 -- One row more in a queue, and one less.
-use Rattle.std.proofs.Common.{◌≡◌, ℕ, ◌+◌, ◌<◌, true, false, Bool, cond, List, [], ◌∷◌, ◌++◌, get_or, length, map, pos, reverse, take, refl, sym, ap, ◌∙◌, append_assoc, append-nil}
+use Rattle.std.proofs.Common.{◌≡◌, ℕ, ◌+◌, ◌<◌, true, false, Bool, cond, List, [], ◌∷◌, ◌++◌, get_or, length, map, pos, reverse, take, refl, sym, ap, ◌∙◌, append_assoc, append-nil, length-append, arith}
+use Rattle.std.specs.Prelude.{filter}
+use Rattle.std.specs.List.{count_by}
+use Rattle.std.proofs.lemmas.List.Sums.{length-filter}
 use Rattle.std.proofs.lemmas.List.{length-map, length-reverse, map-append, reverse-append, reverse-reverse, take_more}
 use Rattle.wsm_semantics.specs.FromWatermark.{Times}
 use Rattle.wsm_keep.specs.declared.queue.Item.{Item}
 use Rattle.wsm_keep.specs.declared.what.What.TheVariants.{Selected}
-use Rattle.wsm_keep.specs.Holds.{Queued}
+use Rattle.wsm_semantics.proofs.Each.{filter-append}
+use Rattle.wsm_keep.specs.Holds.{Queued, is_selected, selected_in}
 use Rattle.wsm_keep.specs.Items.{item_of, joined, queue_of}
 use Rattle.wsm_keep.specs.Staying.{stays, told_after, thinned, done_by, row_of}
 
@@ -57,3 +61,21 @@ module _ (texts : List ℕ) (x : Times) where
   one_goes kept items told i h =
       sym (ap (λ (ds : List Queued). map (item_of texts) kept ++ thinned done_by x told ds) (queue_of-more texts items i)
       ∙ ap (λ (b : Bool). map (item_of texts) kept ++ cond b (item_of texts i ∷ thinned done_by x (told_after told i.what) (queue_of texts items)) (thinned done_by x told (queue_of texts items))) h)
+
+-- ---- how many select a record
+
+selected-append : (newer older : List Queued) → selected_in (newer ++ older) ≡ selected_in newer + selected_in older
+selected-append newer older = ap length (filter-append (λ d. is_selected d.0) newer older) ∙ length-append (filter (λ d. is_selected d.0) newer) (filter (λ d. is_selected d.0) older)
+
+one_more : (items : List Item) (i : Item) (m : ℕ) (d : Queued) (b : Bool) → length items ≡ m → length (cond b (i ∷ items) items) ≡ m + length (cond b (d ∷ []) [])
+one_more items i m d true h = omega (arith, h)
+one_more items i m d false h = omega (arith, h)
+
+of_items : (texts : List ℕ) (items : List Item) → length (filter (λ i. is_selected i.what) items) ≡ selected_in (queue_of texts items)
+of_items texts [] = refl
+of_items texts (i ∷ items) =
+    one_more (filter (λ i. is_selected i.what) items) i (selected_in (queue_of texts items)) (item_of texts i) (is_selected i.what) (of_items texts items)
+    ∙ sym (ap selected_in (reverse-append (item_of texts i ∷ []) (map (item_of texts) items)) ∙ selected-append (queue_of texts items) (item_of texts i ∷ []))
+
+pub selected_of : (texts : List ℕ) (items : List Item) → count_by (λ i. is_selected i.what) items ≡ selected_in (queue_of texts items)
+selected_of texts items = sym (length-filter (λ i. is_selected i.what) items) ∙ of_items texts items

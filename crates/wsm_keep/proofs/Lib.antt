@@ -11,3 +11,7 @@ pub mod OfKeys
 pub mod Natural
 pub mod Events
 pub mod OfEvents
+pub mod Silent
+pub mod NeededTaken
+pub mod SelectedRows
+pub mod AtEnds

@@ -7,11 +7,13 @@ use Rattle.wsm_record.specs.Event.{Event, Record, Watermark}
 use Rattle.wsm_windows.specs.declared.window.Shape.{Shape}
 use Rattle.wsm_windows.specs.declared.window.Shape.TheVariants.{Fixed, Sliding, Session}
 use Rattle.wsm_windows.specs.Windows.{IsShape}
+use Rattle.wsm_admission.specs.Clock.{admitted_count}
 use Rattle.wsm_admission.proofs.SourceMarks.{watermark_rises}
 use Rattle.wsm_semantics.specs.Query.{Query, Datum, SessionsByEvent, Selects, Rises, Nothing, datum, mark, raises, is_taken, selected, selection, verdict_on}
 use Rattle.wsm_semantics.specs.Lines.{Row, events}
 use Rattle.wsm_semantics.specs.Panes.{of_key}
 use Rattle.wsm_semantics.specs.FromWatermark.{Times, IsSettled, PartsNoSession, last_end, dropped_time, dropped_times}
+use Rattle.wsm_semantics.specs.Needed.{needed_by_panes}
 use Rattle.wsm_semantics.proofs.Decided.{none_is}
 use Rattle.wsm_semantics.proofs.KeptTurns.{prompt}
 use Rattle.wsm_semantics.proofs.KeptLaw.{gap_is_long}
@@ -19,9 +21,10 @@ use Rattle.wsm_semantics.proofs.LaterParts.{parted_on, over_settled, over_parts_
 use Rattle.wsm_keep.specs.declared.what.What.{What}
 use Rattle.wsm_keep.specs.declared.what.What.TheVariants.{Selected, Accepted, Idle}
 use Rattle.wsm_keep.specs.Staying.{what_of, stays, told_after, events_in, thinned, with_what, done_by, row_of, staying_for_panes}
-use Rattle.wsm_keep.specs.Holds.{Written, Queued, read, text_of, queued, all_queued, time_if, times_in, IsAbove, Serves, Holds}
+use Rattle.wsm_keep.specs.Holds.{Written, Queued, read, text_of, queued, all_queued, time_if, times_in, selected_in, IsAbove, Serves, Holds}
 use Rattle.wsm_keep.proofs.Thinning.{thinned_twice, thinned-map, above_thinned, times_thinned, later_times}
 use Rattle.wsm_keep.proofs.Settled.{later_decide, sooner_by, no_later}
+use Rattle.wsm_keep.proofs.SelectedRows.{selected_needed}
 
 module _ (q : Query) where
   abbrev past : List Written → List Event
@@ -121,6 +124,10 @@ module _ (q : Query) where
         texts : (ds : List (What × Written)) → map row_of (map queued ds) ≡ map text_of (map row_of ds)
         texts [] = refl
         texts (d ∷ ds) = ap (λ (ts : List (List ℕ)). text_of d.1 ∷ ts) (texts ds)
+
+    -- and as many records are selected in it as are taken of the needed events
+    pub queue_selected : selected_in (thinned done_by limits [] queue) ≡ admitted_count q.clock q.shape q.declared (needed_by_panes q (past rows))
+    queue_selected = ap selected_in (holds.serves limits not_after []) ∙ selected_needed q limits rows []
 
   -- ---- the first row, and the next
 

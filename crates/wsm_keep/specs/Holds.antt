@@ -1,5 +1,5 @@
 -- What a queue has of the rows so far: whatever comes, of it and of all rows the same stay.
-use Rattle.std.specs.Prelude.{◌≡◌, ℕ, true, Ok, List, [], ◌∷◌, ◌++◌, map, ℤ, ◌≤ℤ◌, int_lt, nat_eq, if◌then◌else◌}
+use Rattle.std.specs.Prelude.{◌≡◌, ℕ, Bool, true, false, Ok, List, [], ◌∷◌, ◌++◌, filter, length, map, ℤ, ◌≤ℤ◌, int_lt, nat_eq, if◌then◌else◌}
 use Rattle.std.specs.List.{AllByRecursion}
 use Rattle.wsm_record.specs.Event.{Event}
 use Rattle.wsm_windows.specs.declared.window.Shape.TheVariants.{Session}
@@ -47,6 +47,15 @@ time_if key Idle = []
 abbrev pub times_in : {A : Type 0} → ℕ → List (What × A) → List ℤ
 times_in key [] = []
 times_in key (d ∷ ds) = time_if key d.0 ++ times_in key ds
+
+-- how many of what rows do select a record
+abbrev pub is_selected : What → Bool
+is_selected (Selected key time) = true
+is_selected (Accepted source) = false
+is_selected Idle = false
+
+abbrev pub selected_in : {A : Type 0} → List (What × A) → ℕ
+selected_in ds = length (filter (λ d. is_selected d.0) ds)
 
 -- later than the time of the key
 abbrev pub IsAbove : Times → What → Type 0

@@ -4,13 +4,15 @@ use Rattle.wsm_record.specs.declared.words.Form.{Form}
 use Rattle.wsm_record.specs.declared.words.Form.TheVariants.{Panes}
 use Rattle.wsm_record.specs.Event.{Event}
 use Rattle.wsm_windows.specs.Windows.{IsShape}
+use Rattle.wsm_admission.specs.Clock.{admitted_count}
 use Rattle.wsm_semantics.specs.Query.{Query, SessionsByEvent, mark, raises}
+use Rattle.wsm_semantics.specs.Needed.{needed, needed_by_panes}
 use Rattle.wsm_keep.specs.declared.what.What.{What}
 use Rattle.wsm_keep.specs.declared.what.What.TheVariants.{Selected, Accepted, Idle}
 use Rattle.wsm_keep.specs.declared.keeper.Keeper.{Keeper}
 use Rattle.wsm_keep.specs.declared.keeper.Judged.{Judged}
 use Rattle.wsm_keep.specs.Staying.{what_of, events_in, row_of, is_event, staying, staying_for_panes}
-use Rattle.wsm_keep.specs.Holds.{Written, Queued, read, text_of, Holds}
+use Rattle.wsm_keep.specs.Holds.{Written, Queued, read, text_of, selected_in, Holds}
 use Rattle.wsm_keep.specs.Items.{joined}
 
 -- the watermark before an event that raises it
@@ -82,6 +84,11 @@ pub record IsTold (q : Query) (rows : List Written) (e : Event) (judged : Judged
 pub record IsCut (q : Query) (k : Keeper) (rows : List Written) : Type 0 where
   pub fits : Fits q k rows
   pub texts : map row_of k.queue ≡ map text_of (staying_for_panes read q fits.queues.older)
+  pub selected : selected_in k.queue ≡ admitted_count q.clock q.shape q.declared (needed_by_panes q (events_in read fits.queues.older))
+
+-- where panes are written, as many of some queued rows select a record as are taken of what stays of rows
+abbrev pub SelectsTaken : Query → List Written → List Queued → Type 0
+SelectsTaken q rows queue = q.form ≡ Panes → selected_in queue ≡ admitted_count q.clock q.shape q.declared (needed q (events_in read rows))
 
 -- the texts of rows stand behind those that were there, the oldest first, and so many rows they are
 pub record AreAdded (old new : List ℕ) (rows : List Written) (count : ℕ) : Type 0 where

@@ -1,5 +1,6 @@
 pub mod Staying
 pub mod GoesOn
+pub mod AtEnds
 pub mod Holds
 pub mod Items
 pub mod Keeper

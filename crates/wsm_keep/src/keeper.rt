@@ -6,7 +6,7 @@ ghost use Rattle.wsm_windows.specs.Windows.{IsShape, IsSpan};
 ghost use Rattle.wsm_semantics.specs.Query.{Query, mark};
 ghost use Rattle.wsm_keep.specs.Staying.{row_of, staying};
 ghost use Rattle.wsm_keep.specs.Holds.{Written, read, text_of};
-ghost use Rattle.wsm_keep.specs.Keeper.{AreAdded, Fits, HasSettings, IsCut, IsLawfulQuery, IsTold, queue_at, queued_if, since_at, takes as takes_what};
+ghost use Rattle.wsm_keep.specs.Keeper.{AreAdded, Fits, HasSettings, IsCut, IsLawfulQuery, IsTold, SelectsTaken, queue_at, queued_if, since_at, takes as takes_what};
 
 use crate::cut::firsts_at;
 use crate::queue::Queue;
@@ -176,7 +176,8 @@ impl Keeper {
     pub fn finish(mut self) -> Result<Queue, AllocError>
         requires shape { IsShape self.shape }
         requires lateness { IsSpan self.lateness }
-        ensures { (q : Query) (rows : List Written) → IsLawfulQuery q → Fits q self rows → IfOk result (λ kept. map row_of kept ≡ map text_of (staying read q rows)) }
+        ensures texts { (q : Query) (rows : List Written) → IsLawfulQuery q → Fits q self rows → IfOk result (λ kept. map row_of kept ≡ map text_of (staying read q rows)) }
+        ensures selected { (q : Query) (rows : List Written) → IsLawfulQuery q → Fits q self rows → IfOk result (SelectsTaken q rows) }
     {
         self.cut()?;
         let Keeper {

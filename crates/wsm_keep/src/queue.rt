@@ -1,8 +1,10 @@
 //! Rows that wait for a cut.
 
 ghost use Rattle.std.specs.Prelude.{◌≡◌, ℕ, List, [], ◌∷◌, ◌++◌, length, map, IfOk, OnOk};
-ghost use Rattle.std.specs.List.{All};
+ghost use Rattle.std.specs.List.{All, count_by};
 ghost use Rattle.wsm_semantics.specs.Needed.{is_one_of};
+ghost use Rattle.wsm_keep.specs.Holds as holds;
+ghost use Rattle.wsm_keep.specs.Holds.{selected_in};
 ghost use Rattle.wsm_keep.specs.Staying as spec;
 ghost use Rattle.wsm_keep.specs.Staying.{done_by, row_of};
 ghost use Rattle.wsm_keep.specs.Items.{Lies, MayStand, behind, joined, queue_of, times_of};
@@ -57,6 +59,13 @@ impl Queue {
         ensures { result ≡ length self.now }
     {
         self.items.len()
+    }
+
+    /// How many rows select a record.
+    pub fn selected(&self) -> usize
+        ensures { result ≡ selected_in self.now }
+    {
+        count_selected(&self.items)
     }
 
     // What the rows do, the oldest first.
@@ -138,6 +147,20 @@ impl Queue {
         queue.push_all(&self.texts, &self.items)?;
         Ok(queue)
     }
+}
+
+// How many items select a record.
+fn count_selected(items: &[Item]) -> usize
+    ensures { result ≡ count_by (λ i. holds.is_selected i.what) items.now }
+{
+    items.iter().filter(|item| is_selected(item.what)).count()
+}
+
+// Whether a row selects a record.
+fn is_selected(what: What) -> bool
+    ensures { result ≡ holds.is_selected what }
+{
+    matches!(what, What::Selected(_, _))
 }
 
 // How many bytes the texts of items have.

@@ -187,6 +187,12 @@ same_cells q past text cells is all =
     unique default_config st.StartRecord (strip_bom text) cells (in_place q past) all
     (subst (λ (bytes : List ℕ). AreAll (Some bytes) (in_place q past)) (sym is) (all_in_place q past))
 
+-- what a run over them comes to
+pub counts_kept : (q : Query) (past : List Cells) (text : List ℕ) → text ≡ codes "kept\n" ++ rows_text (kept_rows q past) → (r : Result Counts KeepEnd)
+    → IfOk r (λ counts. (cells : List Cells) × AreAll (Some text) cells × (counts ≡ counts_of q (rows_of q cells))) → IfOk r (λ counts. counts ≡ counts_of q (rows_of q (in_place q past)))
+counts_kept q past text is (Ok counts) (cells, all, same) = same ∙ ap (λ (rows : List Cells). counts_of q (rows_of q rows)) (same_cells q past text cells is all)
+counts_kept q past text is (Err end) h = tt
+
 pub text_kept : (q : Query) (past : List Cells) (rows : List (List ℕ)) → rows ≡ map text_of (staying read q (written q past)) → codes "kept\n" ++ joined rows ≡ codes "kept\n" ++ rows_text (kept_rows q past)
 text_kept q past rows is = ap (λ (texts : List (List ℕ)). codes "kept\n" ++ joined texts) is ∙ ap (λ (t : List ℕ). codes "kept\n" ++ t) (joined_kept q past)
 

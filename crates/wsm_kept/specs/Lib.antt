@@ -5,5 +5,6 @@ pub mod Cut
 pub mod KeptRows
 pub mod Run
 pub mod Stay
+pub mod Own
 pub mod Pass
 pub mod Unseen

@@ -19,6 +19,7 @@ mod cutting;
 mod end;
 mod head;
 pub mod laws;
+mod own;
 mod pass;
 mod row_text;
 mod run;

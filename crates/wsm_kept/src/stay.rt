@@ -1,24 +1,18 @@
 //! The rows that stay.
 
-ghost use Rattle.std.specs.Prelude.{◌≡◌, ◌++◌, ℕ, List, [], Option, Some, codes, map, IfOk, OnOk};
-ghost use Rattle.wsm_program.specs.Program.{Program};
+ghost use Rattle.std.specs.Prelude.{◌≡◌, ◌++◌, List, codes, map, IfOk};
 ghost use Rattle.wsm_machine.specs.Meaning.{query_of};
-ghost use Rattle.wsm_csv.specs.Records.{AreAll};
-ghost use Rattle.wsm_csv.specs.Rows.{Follows};
 ghost use Rattle.wsm_keep.specs.Items.{joined};
 ghost use Rattle.wsm_keep.specs.Staying.{row_of};
 ghost use Rattle.wsm_cut.specs.Cutter.{Fits, IsReady};
-ghost use Rattle.wsm_kept.specs.Kept.{Cells, counts_of, rows_of, written};
-ghost use Rattle.wsm_kept.specs.Run.{Fits as RunFits};
+ghost use Rattle.wsm_kept.specs.Kept.{Cells, written};
 ghost use Rattle.wsm_kept.specs.Stay.{IsStay};
 
 use crate::counts::Counts;
 use crate::end::KeepEnd;
 use crate::head::Head;
-use crate::run::Run;
+use crate::own::own_counts;
 use std::alloc::{AllocError, Global};
-use std::io::Read;
-use wsm_csv::Rows;
 use wsm_cut::Cutter;
 use wsm_keep::Queue;
 use wsm_rules::Verified;
@@ -61,9 +55,8 @@ pub fn stay_of(alloc: Global, verified: Verified, cutter: Cutter) -> Result<Stay
 {
     let queue = cutter.finish()?;
     let text = text_of(alloc, &queue)?;
-    drop(queue);
     let records = verified.program().header().clock.records.unsigned_abs();
-    let own = counts_over(alloc, verified, &text)?;
+    let own = own_counts(alloc, verified, queue, &text)?;
     Ok(Stay { text, own, records })
 }
 
@@ -74,31 +67,4 @@ fn text_of(alloc: Global, queue: &Queue) -> Result<Vec<u8>, AllocError>
     let mut text = FRONT.to_vec(alloc)?;
     queue.add_texts(&mut text)?;
     Ok(text)
-}
-
-// What a run over the rows of a text comes to.
-fn counts_over(alloc: Global, verified: Verified, text: &[u8]) -> Result<Counts, KeepEnd>
-    ensures { IfOk result (λ counts. (cells : List Cells) × AreAll (Some text.now) cells × (counts ≡ counts_of (query_of verified) (rows_of (query_of verified) cells))) }
-{
-    let mut run = Run::open(alloc, verified)?;
-    count_rows(alloc, &mut run, text)
-}
-
-// Has a run take the rows of a text, and tells what they come to.
-fn count_rows(alloc: Global, run: &mut Run, text: &[u8]) -> Result<Counts, KeepEnd>
-    ensures { (p : Program) → RunFits p run.old [] → IfOk result (λ counts. (cells : List Cells) × AreAll (Some text.now) cells × (counts ≡ counts_of (query_of p) (rows_of (query_of p) cells))) }
-{
-    let mut rows = Rows::new(alloc, text);
-    take_all(run, &mut rows)?;
-    Ok(run.counts())
-}
-
-// Takes the turn of each row.
-fn take_all<R: Read + Drop>(run: &mut Run, rows: &mut Rows<R>) -> Result<(), KeepEnd>
-    ensures { (known : Option (List ℕ)) (p : Program) → Follows R.remaining known [] rows.old → RunFits p run.old [] → OnOk result ((cells : List Cells) × AreAll known cells × RunFits p run.new (rows_of (query_of p) cells)) }
-{
-    while rows.advance()? {
-        run.take(rows.row())?;
-    }
-    Ok(())
 }

@@ -7,9 +7,11 @@ use Rattle.wsm_program.specs.View.{header_of}
 use Rattle.wsm_rules.proofs.Lawful.{IsLawful, lawful_seen}
 use Rattle.wsm_machine.specs.Meaning.{query_of}
 use Rattle.wsm_keep.specs.Staying.{row_of}
-use Rattle.wsm_kept.specs.Kept.{Cells, counts_of, in_place, kept_rows, rows_of, written}
+use Rattle.wsm_cut.proofs.Judging.{query_lawful}
+use Rattle.wsm_kept.specs.Kept.{Cells, kept_rows, written}
+use Rattle.wsm_kept.specs.Own.{HasStaying}
 use Rattle.wsm_kept.specs.Texts.{rows_text}
-use Rattle.wsm_kept.proofs.Passed.{same_cells, text_kept}
+use Rattle.wsm_kept.proofs.Passed.{text_kept}
 use Rattle.wsm_kept.proofs.stay.stay_of.Goals as goal
 
 size_fits : (n : ℤ) → pos 1 ≤ℤ n → n ≤ℤ pos 1000000000000 → SFits w64 n
@@ -21,15 +23,14 @@ returns c = λ past is.
     let q : Query = query_of p in
     let text : c.in_ok-text.text.items ≡ codes "kept\n" ++ rows_text (kept_rows q past) =
     c.in_ok-text.ensures
-    ∙ text_kept q past (map row_of c.in_ok-queue.queue) (c.in_ok-queue.ensures p (written q past) is) in
-    let (cells, all, counts) = c.in_ok-own.ensures in
-    let same : cells ≡ in_place q past = same_cells q past c.deref.result.now cells (c.deref.ensures.value ∙ text) all in
+    ∙ text_kept q past (map row_of c.in_ok-queue.queue) (c.in_ok-queue.ensures.texts p (written q past) is) in
+    let has : HasStaying q past c.in_ok-queue.queue =
+    record { lawful = query_lawful p is.lawful; texts = c.in_ok-queue.ensures.texts p (written q past) is; selected = c.in_ok-queue.ensures.selected p (written q past) is } in
     let header : header_of c.header.result.now ≡ p.header = c.header.ensures.header ∙ ap (λ (m : Program). m.header) c.program.ensures.program in
     let good : IsLawful (header_of c.header.result.now) = lawful_seen c.program.result.now (header_of c.header.result.now) c.header.ensures.header c.header.ensures.lawful in
     let fits : SFits w64 c.header.result.now.clock.records = size_fits c.header.result.now.clock.records good.records.0 good.records.1 in
     record {
       text = text;
-      own = counts
-          ∙ ap (λ (rows : List Cells). counts_of q (rows_of q rows)) same;
+      own = c.in_ok-own.ensures past has (c.deref.ensures.value ∙ text);
       records = sym (c.unsigned_abs-records.ensures.value ∙ ap unsigned_abs (to_z-of_z fits) ∙ ap (λ (h : Header). unsigned_abs h.clock.records) header);
     }

@@ -5,7 +5,7 @@ use Rattle.wsm_csv.specs.Rows.{cells_of}
 use Rattle.wsm_kept.specs.Kept.{Cells, rows_of}
 use Rattle.wsm_kept.specs.Run.{Fits}
 use Rattle.wsm_kept.proofs.RowLists.{rows_of-more}
-use Rattle.wsm_kept.proofs.stay.take_all.Goals as goal
+use Rattle.wsm_kept.proofs.own.take_all.Goals as goal
 
 pub loop-run-init : goal.loop-run-init
 loop-run-init g c = λ known p follows fits. ([], follows, fits)

@@ -1,5 +1,5 @@
 use Rattle.std.proofs.Common.{◌∙◌, Some}
-use Rattle.wsm_kept.proofs.stay.count_rows.Goals as goal
+use Rattle.wsm_kept.proofs.own.count_rows.Goals as goal
 
 pub returns : goal.returns
 returns c = λ p fits.

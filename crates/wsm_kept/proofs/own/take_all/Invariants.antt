@@ -4,7 +4,7 @@ use Rattle.wsm_machine.specs.Meaning.{query_of}
 use Rattle.wsm_csv.specs.Rows.{Follows, turns_left}
 use Rattle.wsm_kept.specs.Kept.{Cells, rows_of}
 use Rattle.wsm_kept.specs.Run.{Fits}
-use Rattle.wsm_kept.proofs.stay.take_all.Given as goal
+use Rattle.wsm_kept.proofs.own.take_all.Given as goal
 
 -- the turns of these rows were taken
 abbrev pub invariant-loop-run : goal.invariant-loop-run
