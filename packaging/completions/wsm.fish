@@ -33,5 +33,6 @@ complete -c wsm -n '__fish_seen_subcommand_from live' -x -l lost -a begin -d 'Wh
 complete -c wsm -n '__fish_seen_subcommand_from live' -r -l health -d 'The file for monitors'
 complete -c wsm -n '__fish_seen_subcommand_from live' -x -l patience -d 'How long a log that was renamed is read'
 complete -c wsm -n '__fish_seen_subcommand_from live' -x -l cut -d 'By how much the journal grows until it is cut'
+complete -c wsm -n '__fish_seen_subcommand_from live' -l position -d 'Tell the last position'
 complete -c wsm -n '__fish_seen_subcommand_from help' -f -a 'run compile migrate verify explain deal rows keep watermarks live'
 complete -c wsm -l help -d 'Tell of the words'

@@ -3,6 +3,7 @@
 use std::alloc::{AllocError, AllocFailed};
 use std::fmt;
 use wsm::{End, status_of};
+use wsm_fed::FedFault;
 use wsm_kept::KeepEnd;
 use wsm_live_loop::LiveStop;
 use wsm_replace::ReplaceFault;
@@ -66,9 +67,10 @@ impl fmt::Display for Stop {
 fn status_of_live(stop: &LiveStop) -> u8 {
     match stop {
         LiveStop::Memory => status_of(End::Memory),
+        LiveStop::Fed(FedFault::Memory) => status_of(End::Memory),
         LiveStop::NoLog => REFUSED_WORDS,
-        LiveStop::Held => HELD_ROWS,
-        LiveStop::Log => status_of(End::ReadFailed),
+        LiveStop::Held | LiveStop::Fed(FedFault::Other) => HELD_ROWS,
+        LiveStop::Log | LiveStop::Input => status_of(End::ReadFailed),
         LiveStop::File(fault) if fault.call.is_reading() => status_of(End::ReadFailed),
         LiveStop::File(_) | LiveStop::Out => status_of(End::WriteFailed),
         _ => UNFIT_ROWS,
@@ -96,6 +98,10 @@ pub enum WordsFault {
     NoSource,
     /// It goes on nowhere but at the beginning where lines are gone.
     NoPlace,
+    /// A live run wants a source, a query and a log, and one that tells its position none of them.
+    NoLive,
+    /// Standard input is renamed by nobody and loses no lines.
+    NoFile,
 }
 
 impl fmt::Display for WordsFault {
@@ -114,6 +120,12 @@ impl fmt::Display for WordsFault {
                 "--source names one of the query's SOURCES, and is left out where it has none",
             ),
             WordsFault::NoPlace => f.write_str("--lost takes the word begin"),
+            WordsFault::NoLive => {
+                f.write_str("live takes --from SOURCE DIR QUERY LOG, or DIR --position")
+            }
+            WordsFault::NoFile => {
+                f.write_str("--lost and --patience are for a LOG that is a file")
+            }
         }
     }
 }

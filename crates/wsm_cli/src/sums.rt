@@ -15,8 +15,14 @@ pub fn sum_of_program(alloc: Global, bytes: &[u8]) -> Result<u64, End> {
 }
 
 /// The sum of all that says what is written for the lines of a log: the bytes of the program, in the version that is written,
-/// and those of its source behind them.
-pub fn sum_of_live(alloc: Global, program: bool, query: &[u8], source: &[u8]) -> Result<u32, End> {
+/// and those of its source behind them. It is another one where the lines come on standard input, so no folder takes them of both.
+pub fn sum_of_live(
+    alloc: Global,
+    program: bool,
+    query: &[u8],
+    source: &[u8],
+    is_fed: bool,
+) -> Result<u32, End> {
     let newest = if program {
         migrate(alloc, query)?
     } else {
@@ -25,6 +31,9 @@ pub fn sum_of_live(alloc: Global, program: bool, query: &[u8], source: &[u8]) ->
     let mut sum = Crc32::new();
     sum.add(&newest);
     sum.add(source);
+    if is_fed {
+        sum.add(b"-");
+    }
     Ok(sum.sum())
 }
 

@@ -2,6 +2,7 @@
 
 use std::alloc::{AllocError, AllocFailed};
 use std::fmt;
+use wsm_fed::{Broken, FedFault};
 use wsm_follow::{FolderFault as LogFault, Loss, Lost};
 use wsm_live::LiveError;
 use wsm_live_files::{FileFault, FolderFault};
@@ -29,6 +30,10 @@ pub enum LiveStop {
     Full,
     /// The journal's last position is none of a log.
     NoPosition,
+    /// Standard input couldn't be read.
+    Input,
+    /// What the source writes on standard input can't be taken.
+    Fed(FedFault),
     /// Lines that were read are gone from the log.
     Lost(Lost),
     /// The log goes on in a file of this name, which is packed.
@@ -78,6 +83,33 @@ fn said(loss: Loss) -> &'static str {
     }
 }
 
+// What is said of a line of the source that breaks the protocol, behind its number.
+fn put_broken<W: fmt::Write>(
+    broken: Broken,
+    number: u64,
+    f: &mut fmt::Formatter<W>,
+) -> fmt::Result {
+    match broken {
+        Broken::NoFrom => write!(f, "line {number} of standard input isn't from,POSITION"),
+        Broken::NoLine => write!(
+            f,
+            "line {number} of standard input is neither :LINE nor at,LINES,POSITION"
+        ),
+        Broken::Lines(said, came) => write!(
+            f,
+            "line {number} of standard input says that {said} lines came since the last at, and {came} did"
+        ),
+        Broken::Position => write!(
+            f,
+            "line {number} of standard input has a POSITION of more than 1024 bytes"
+        ),
+        Broken::Large => write!(
+            f,
+            "line {number} of standard input: 16 MiB came without an at,LINES,POSITION"
+        ),
+    }
+}
+
 impl LiveStop {
     // The text of one that is said by a sentence alone.
     fn sentence(&self) -> &'static str {
@@ -90,7 +122,11 @@ impl LiveStop {
             LiveStop::Damaged =>
                 "DIR/journal is damaged, a record isn't whole behind which another is: put back a copy of DIR",
             LiveStop::Other =>
-                "DIR is of another query or source: take these again, or another DIR",
+                "DIR is of another query, source or kind of LOG: take these again, or another DIR",
+            LiveStop::Input => "standard input can't be read",
+            LiveStop::Fed(FedFault::Memory) => "out of memory",
+            LiveStop::Fed(FedFault::Other) =>
+                "the source goes on from another position than DIR's: have it ask wsm live DIR --position again",
             LiveStop::Full => "DIR/journal has no number left: take another DIR",
             LiveStop::NoPosition =>
                 "DIR/journal's last position is none of a log: put back a copy of DIR",
@@ -103,6 +139,7 @@ impl fmt::Display for LiveStop {
     fn fmt<W: fmt::Write>(&self, f: &mut fmt::Formatter<W>) -> fmt::Result {
         match self {
             LiveStop::File(fault) => write!(f, "{fault}"),
+            LiveStop::Fed(FedFault::Line(number, broken)) => put_broken(*broken, *number, f),
             LiveStop::Lost(lost) => {
                 let (why, read, there) = (said(lost.loss), lost.read, lost.there);
                 write!(

@@ -2,18 +2,21 @@
 
 use crate::begin::{LogPlace, PAUSE, begin_text, follower_at, opened};
 use crate::cuts::{Cuts, seconds_since};
+use crate::fed_inflow::FedInflow;
 use crate::health::Health;
+use crate::inflow::{Came, Inflow};
+use crate::log_inflow::LogInflow;
 use crate::numbered::count_rows;
 use crate::settings::Settings;
 use crate::sinks::{Handed, least_taken};
 use crate::stop::{LiveStop, stop_of};
 use std::alloc::AllocError;
 use std::fs::File;
-use std::io::{self, Eprint, Write};
+use std::io::{self, Eprint, Read, Write};
 use std::rt::Files;
 use std::thread;
 use std::time::{Clock, Duration, Instant, SystemTime, UNIX_EPOCH};
-use wsm_follow::{Folder, FolderFault as LogFault, Follower, LogFolder, Lost, Turn, beginning};
+use wsm_follow::LogFolder;
 use wsm_journal::{JournalError, ReplaceError, is_position};
 use wsm_live::{Front, LineTaker, Live, LiveError, LiveRun};
 use wsm_live_files::{FileFault, FolderFault, JournalFiles, LiveFolder, RunName, put_health};
@@ -65,12 +68,6 @@ impl From<ReplaceError> for Halt {
     }
 }
 
-impl From<LogFault> for Halt {
-    fn from(fault: LogFault) -> Halt {
-        Halt::Stop(LiveStop::from(fault))
-    }
-}
-
 impl From<FolderFault> for Halt {
     fn from(fault: FolderFault) -> Halt {
         Halt::Stop(LiveStop::from(fault))
@@ -79,16 +76,14 @@ impl From<FolderFault> for Halt {
 
 // Where a run stands, beside its journal.
 #[derive(Drop)]
-struct Following<'s, 'r, R> {
+struct Following<'s, 'r, R, I> {
     rt: &'r R,
     settings: &'s Settings<'s>,
     folder: LiveFolder<'r, R>,
     health: String,
-    place: LogPlace<'s>,
-    log: LogFolder<'r, R>,
-    follower: Follower,
+    inflow: I,
     name: Option<RunName>,
-    // What is handed out next, and where the log stands behind it.
+    // What is handed out next, and where the inflow stands behind it.
     out: Vec<u8>,
     position: Vec<u8>,
     counts: Counts,
@@ -115,7 +110,11 @@ struct Following<'s, 'r, R> {
 /// # Errors
 ///
 /// What stops it.
-pub fn follow<R, T>(rt: &R, settings: &Settings<'_>, run: LiveRun<T>) -> Result<(), LiveStop>
+pub fn follow<'a, R, T>(
+    rt: &'a R,
+    settings: &'a Settings<'a>,
+    run: LiveRun<T>,
+) -> Result<(), LiveStop>
 where
     R: Files<File = File> + AllocGlobal + Print + Eprint + Clock + Clone + Drop,
     T: LineTaker + Measured,
@@ -127,9 +126,58 @@ where
     let mut log = LogFolder::new(rt, place.folder, place.name, settings.patience)?;
     let begin = begin_text(rt, &folder, place, &mut log)?;
     let mut out = Vec::new(rt.alloc());
-    let mut live = opened(rt, settings.sum, folder.journal()?, &begin, run, &mut out)?;
+    let live = opened(rt, settings.sum, folder.journal()?, &begin, run, &mut out)?;
     let follower = follower_at(rt, place, &mut log, live.position(), settings.longest)?;
-    let mut following = Following::new(rt, settings, folder, place, log, follower, out)?;
+    let inflow = LogInflow {
+        rt,
+        settings,
+        place,
+        log,
+        follower,
+    };
+    run_over(rt, settings, folder, inflow, live, out)
+}
+
+/// Takes the lines that a source writes, with where it stands behind them, and hands out what they come to as [`follow`] does, until
+/// the source has ended.
+///
+/// # Errors
+///
+/// What stops it.
+pub fn feed<R, I, T>(
+    rt: &R,
+    settings: &Settings<'_>,
+    input: I,
+    run: LiveRun<T>,
+) -> Result<(), LiveStop>
+where
+    R: Files<File = File> + AllocGlobal + Print + Eprint + Clock + Clone + Drop,
+    I: Read + Drop,
+    T: LineTaker + Measured,
+{
+    let folder = LiveFolder::hold(rt, settings.dir)?;
+    let mut out = Vec::new(rt.alloc());
+    let live = opened(rt, settings.sum, folder.journal()?, b"", run, &mut out)?;
+    let inflow = FedInflow::new(rt.alloc(), input, live.position(), settings.longest)?;
+    run_over(rt, settings, folder, inflow, live, out)
+}
+
+// Hands out what the journal has, which is this, and goes on with an inflow.
+fn run_over<'s, 'r, R, I, T>(
+    rt: &'r R,
+    settings: &'s Settings<'s>,
+    folder: LiveFolder<'r, R>,
+    inflow: I,
+    live: Live<JournalFiles<'r, R>, T>,
+    out: Vec<u8>,
+) -> Result<(), LiveStop>
+where
+    R: Files<File = File> + AllocGlobal + Print + Eprint + Clock + Clone + Drop,
+    I: Inflow,
+    T: LineTaker + Measured,
+{
+    let mut live = live;
+    let mut following = Following::new(rt, settings, folder, inflow, out)?;
     match following.run(&mut live) {
         Ok(()) => Ok(()),
         Err(Halt::Stop(stop)) => Err(stop),
@@ -137,20 +185,19 @@ where
     }
 }
 
-impl<'s, 'r, R> Following<'s, 'r, R>
+impl<'s, 'r, R, I> Following<'s, 'r, R, I>
 where
     R: Files<File = File> + AllocGlobal + Print + Eprint + Clock + Clone + Drop,
+    I: Inflow,
 {
     // Before the first turn, where this is to be handed out.
     fn new(
         rt: &'r R,
         settings: &'s Settings<'s>,
         folder: LiveFolder<'r, R>,
-        place: LogPlace<'s>,
-        log: LogFolder<'r, R>,
-        follower: Follower,
+        inflow: I,
         out: Vec<u8>,
-    ) -> Result<Following<'s, 'r, R>, AllocError> {
+    ) -> Result<Following<'s, 'r, R, I>, AllocError> {
         let health = match settings.health {
             Some(file) => String::from_str(rt.alloc(), file)?,
             None => folder.path_of("health")?,
@@ -160,9 +207,7 @@ where
             settings,
             folder,
             health,
-            place,
-            log,
-            follower,
+            inflow,
             name: None,
             out,
             position: Vec::new(rt.alloc()),
@@ -181,7 +226,7 @@ where
         })
     }
 
-    // Hands out what the journal has, and then goes on with the log.
+    // Hands out what the journal has, and then goes on with what comes in, up to its end.
     fn run<T: LineTaker + Measured>(
         &mut self,
         live: &mut Live<JournalFiles<'r, R>, T>,
@@ -189,8 +234,15 @@ where
         let name = str::from_utf8(live.name()).unwrap_or("");
         self.begin(name, live.front(), live.run().count())?;
         for _ in 0..u64::MAX {
-            if !self.turn(live)? {
-                thread::sleep(self.rt, Duration::from_millis(PAUSE));
+            match self.inflow.turn()? {
+                Came::Lines => self.take(live)?,
+                Came::More => {}
+                Came::Nothing => thread::sleep(self.rt, Duration::from_millis(PAUSE)),
+                Came::End => {
+                    self.look = None;
+                    self.renew = None;
+                    return self.look_round(live);
+                }
             }
             self.look_round(live)?;
         }
@@ -232,75 +284,18 @@ where
         Ok(())
     }
 
-    // Reads on, once, and answers whether there may be more.
-    fn turn<T: LineTaker>(
-        &mut self,
-        live: &mut Live<JournalFiles<'r, R>, T>,
-    ) -> Result<bool, Halt> {
-        match self.follower.turn(&mut self.log)? {
-            Turn::Lines => {
-                self.take(live)?;
-                Ok(true)
-            }
-            Turn::Nothing => Ok(false),
-            Turn::Next(left) => {
-                self.tell_left(left);
-                Ok(true)
-            }
-            Turn::Elsewhere => {
-                self.tell_elsewhere();
-                Ok(true)
-            }
-            Turn::Packed(name) => Err(Halt::Stop(LiveStop::Packed(name))),
-            Turn::Lost(lost) => Ok(self.begin_again(lost)?),
-        }
-    }
-
     // Takes the lines that were read: they are in the journal before they are taken.
     fn take<T: LineTaker>(&mut self, live: &mut Live<JournalFiles<'r, R>, T>) -> Result<(), Halt> {
         self.position.clear();
-        self.follower.position().write(&mut self.position)?;
+        self.inflow.write_position(&mut self.position)?;
         if !is_position(&self.position) {
             return Err(Halt::Stop(LiveStop::NoPosition));
         }
-        let count = live.append(self.follower.lines(), &self.position, &mut self.out)?;
+        let count = live.append(self.inflow.lines(), &self.position, &mut self.out)?;
         self.lines = self.lines.saturating_add(count as u64);
         self.synced = seconds(self.rt);
         self.came = Instant::now(self.rt).ok();
         Ok(self.hand_out(live.run().count())?)
-    }
-
-    // Goes on at the beginning of the log, where that is asked for and it is there.
-    fn begin_again(&mut self, lost: Lost) -> Result<bool, LiveStop> {
-        if !self.settings.goes_on {
-            return Err(LiveStop::Lost(lost));
-        }
-        let known = self.place.known(self.rt.alloc())?;
-        let Some(position) = beginning(&mut self.log, known)? else {
-            return Ok(false);
-        };
-        let read = lost.read;
-        let _ = eprintln!(self.rt;
-            "wsm: LOG has lost {read} bytes that were read: goes on at its beginning"
-        );
-        let known = self.place.known(self.rt.alloc())?;
-        self.follower = Follower::new(self.rt.alloc(), known, position, self.settings.longest)?;
-        Ok(true)
-    }
-
-    // Tells of a line that never ended.
-    fn tell_left(&self, left: u64) {
-        if left != 0 {
-            let _ = eprintln!(self.rt;
-                "wsm: left out, since LOG ended in the middle of a line: {left} bytes"
-            );
-        }
-    }
-
-    fn tell_elsewhere(&self) {
-        let _ = eprintln!(self.rt;
-            "wsm: LOG goes on in a copy, or its file has no name any more: lines may be missing"
-        );
     }
 
     // Looks at what sinks told, cuts the journal, and renews what monitors read, where it is time.
@@ -417,7 +412,7 @@ where
             lines: self.lines,
             handed: self.handed,
             untaken: self.handed.saturating_sub(self.taken.unwrap_or(0)),
-            behind: self.behind()?,
+            behind: self.inflow.behind()?,
             quiet: seconds_since(self.came, now),
             journal: self.folder.journal_size()?,
             synced: self.synced,
@@ -426,18 +421,6 @@ where
         };
         let text = health.text(self.rt.alloc(), taker, &self.counts)?;
         Ok(put_health(self.rt, self.health.as_str(), &text)?)
-    }
-
-    // How many bytes of the log's file weren't read.
-    fn behind(&mut self) -> Result<u64, LiveStop> {
-        let (file, offset) = (
-            self.follower.position().file,
-            self.follower.position().offset,
-        );
-        match self.log.size(file)? {
-            Some(size) => Ok(size.saturating_sub(offset)),
-            None => Ok(0),
-        }
     }
 }
 

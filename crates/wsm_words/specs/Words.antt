@@ -14,6 +14,10 @@ use Rattle.wsm_words.specs.declared.refusal.WordsRefusal.TheVariants.{Words, Mem
 abbrev pub file_rule : Text → Rule
 file_rule id = record (new_rule id) { value_names = 1; required = true }
 
+-- a file that may be named
+abbrev pub other_rule : Text → Rule
+other_rule id = record (new_rule id) { value_names = 1 }
+
 -- a flag, by its name
 abbrev pub flag_rule : Text → Rule
 flag_rule name = record (new_rule name) { long = Some name; action = Some SetTrue }
@@ -88,15 +92,17 @@ waiting_app =
 abbrev pub watermarks_app : App
 watermarks_app = with_rule (with_rule (with_rule (with_rule waiting_app (flag_rule (codes "last"))) (option_rule (codes "metrics"))) (file_rule (codes "query"))) rows_rule
 
--- live [--program] --from SOURCE [--lost WHERE] [--health FILE] [--patience SECONDS]
+-- live [--program] [--from SOURCE] [--lost WHERE] [--health FILE] [--patience SECONDS]
 abbrev pub following_app : App
 following_app =
-    with_rule (with_rule (with_rule (with_rule (with_rule (new_app (codes "live")) (flag_rule (codes "program"))) (needed_rule (codes "from"))) (option_rule (codes "lost")))
+    with_rule (with_rule (with_rule (with_rule (with_rule (new_app (codes "live")) (flag_rule (codes "program"))) (option_rule (codes "from"))) (option_rule (codes "lost")))
     (option_rule (codes "health"))) (option_rule (codes "patience"))
 
--- and with [--cut BYTES] DIR QUERY LOG
+-- and with [--cut BYTES] [--position] DIR [QUERY] [LOG]
 abbrev pub live_app : App
-live_app = with_rule (with_rule (with_rule (with_rule following_app (option_rule (codes "cut"))) (file_rule (codes "dir"))) (file_rule (codes "query"))) (file_rule (codes "log"))
+live_app =
+    with_rule (with_rule (with_rule (with_rule (with_rule following_app (option_rule (codes "cut"))) (flag_rule (codes "position"))) (file_rule (codes "dir"))) (other_rule (codes "query")))
+    (other_rule (codes "log"))
 
 -- the program's command, which wants a subcommand and tells its version
 abbrev pub required_app : App
@@ -186,10 +192,10 @@ IsJob name entries (Watermarks job) =
     × HasOption entries (codes "source") job.source × HasOption entries (codes "once") job.once × SaysFlag (one_of (codes "last") entries) job.last
     × HasOption entries (codes "metrics") job.metrics × Names entries (codes "query") job.query × NamesRows entries job.rows
 IsJob name entries (Live job) =
-    (name ≡ codes "live") × SaysFlag (one_of (codes "program") entries) job.program × Names entries (codes "from") job.from
+    (name ≡ codes "live") × SaysFlag (one_of (codes "program") entries) job.program × HasOption entries (codes "from") job.from
     × HasOption entries (codes "lost") job.lost × HasOption entries (codes "health") job.health × HasOption entries (codes "patience") job.patience
-    × HasOption entries (codes "cut") job.cut
-    × Names entries (codes "dir") job.dir × Names entries (codes "query") job.query × Names entries (codes "log") job.log
+    × HasOption entries (codes "cut") job.cut × SaysFlag (one_of (codes "position") entries) job.position
+    × Names entries (codes "dir") job.dir × HasOption entries (codes "query") job.query × HasOption entries (codes "log") job.log
 
 -- a job is that of the subcommand and its entries
 abbrev pub IsJobOf : Option (Text × List Row) → Job → Type 0

@@ -2,7 +2,7 @@
 
 ghost use Rattle.std.specs.Prelude.{◌≡◌, false};
 ghost use Rattle.clap.specs.Words.{app_of, new_app, rule_of};
-ghost use Rattle.wsm_words.specs.Words.{file_rule, flag_rule, needed_rule, option_rule, rows_rule};
+ghost use Rattle.wsm_words.specs.Words.{file_rule, flag_rule, needed_rule, option_rule, other_rule, rows_rule};
 
 use clap::{Arg, ArgAction, Command};
 use std::alloc::Global;
@@ -57,6 +57,14 @@ pub fn file<'a>(alloc: Global, id: &'a str, name: &'a str, help: &'a str) -> Arg
         .value_name(name)
         .help(help)
         .required(true)
+}
+
+/// A file that may be named.
+pub fn other_file<'a>(alloc: Global, id: &'a str, name: &'a str, help: &'a str) -> Arg<'a>
+    ensures rule { rule_of result ≡ other_rule id.entry.now }
+    ensures local { result.global ≡ false }
+{
+    Arg::new(alloc, id).value_name(name).help(help)
 }
 
 /// The file of the rows or of the log, which may be named last.

@@ -393,7 +393,7 @@ pub const DIR: &str = "The folder of the run, which is made where it isn't there
 
 /// What the log's file is.
 pub const GROWING_LOG: &str =
-    "The file of the log, which may be renamed, or copied and cut, as it grows";
+    "The file of the log, which may be renamed, or copied and cut, as it grows; `-` for a source on standard input";
 
 /// What the option for lost lines says.
 pub const LOST: &str =
@@ -410,6 +410,10 @@ pub const PATIENCE: &str =
 /// What the option for cuts says.
 pub const CUT: &str =
     "Cut the journal once it has grown by so many bytes, or an hour has gone; 16777216 where it is left out";
+
+/// What the flag for the position says.
+pub const POSITION: &str =
+    "Write the position up to which DIR has all, and nothing else; DIR stands alone then";
 
 /// An example of the command `live`.
 pub const LIVE_EXAMPLE: &str =
@@ -433,6 +437,17 @@ those that he has. He may tell in DIR/taken what he has surely on his disk, as N
 last line: he writes it beside, as DIR/taken.next, and renames it. Once all who tell so have all lines,
 DIR is cut in its place to what lines to come need, by the time and the size of --cut: what was taken
 isn't written again then, and the first line tells how many those are.
+
+A source may write the lines on standard input, where LOG is `-`: a broker's, or a table's. It writes
+
+  from,POSITION
+  :LINE
+  at,LINES,POSITION
+
+first what `wsm live DIR --position` printed, then each line behind a colon, and now and then where it
+stands: LINES is how many came since the last `at`, and POSITION bytes that it alone understands. What an
+`at` stands behind is taken. At the end of standard input it ends with 0, and lines without an `at` come
+again from their source.
 
 It ends by itself with status 5, 6, 7 or 8, behind which it may be begun anew, or with 2, 3, 4 or 9,
 where somebody must look: DIR is of another query or source, or is damaged, or lines that were read

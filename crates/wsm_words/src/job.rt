@@ -177,13 +177,13 @@ pub struct Agreement {
     pub room: Option<String>,
 }
 
-/// To follow a log as it grows, and hand out lines with their numbers.
+/// To follow a log as it grows, and hand out lines with their numbers; or to tell how far that went.
 #[derive(Debug, Drop)]
 pub struct LiveJob {
     /// Whether the file has the bytes of a program, and not the text of a query.
     pub program: bool,
-    /// The file of the source by which the lines are read.
-    pub from: String,
+    /// The file of the source by which the lines are read; none is named to tell a position.
+    pub from: Option<String>,
     /// Where to go on where lines that were read are gone; nowhere where it isn't said.
     pub lost: Option<String>,
     /// The file of what the run has come to; one in the folder where it isn't said.
@@ -192,10 +192,12 @@ pub struct LiveJob {
     pub patience: Option<String>,
     /// By how many bytes the journal grows until it is cut; some where it isn't said.
     pub cut: Option<String>,
+    /// Whether the position is told up to which the folder has all.
+    pub position: bool,
     /// The folder of the run.
     pub dir: String,
-    /// The file of the query or the program.
-    pub query: String,
-    /// The file of the log.
-    pub log: String,
+    /// The file of the query or the program; none is named to tell a position.
+    pub query: Option<String>,
+    /// The file of the log, or `-` for standard input; none is named to tell a position.
+    pub log: Option<String>,
 }

@@ -4,7 +4,7 @@ ghost use Rattle.std.specs.Prelude.{◌≡◌, IfOk, IfErr, codes};
 ghost use Rattle.clap.specs.Words.{app_of, found_of, rows_of as entries_of};
 ghost use Rattle.wsm_words.specs.Words.{following_app, live_app, IsJob, IsMemory};
 
-use crate::arguments::{command, file, flag, needed, option};
+use crate::arguments::{command, file, flag, option, other_file};
 use crate::entries::{file_of, flag_of, option_of};
 use crate::help;
 use crate::job::{Job, LiveJob};
@@ -12,25 +12,26 @@ use crate::refusal::WordsRefusal;
 use clap::{ArgMatches, Command};
 use std::alloc::{AllocError, Global};
 
-/// `live [--program] --from SOURCE [--lost WHERE] [--health FILE] [--patience SECONDS] [--cut BYTES] DIR QUERY LOG`
+/// `live [--program] [--from SOURCE] [--lost WHERE] [--health FILE] [--patience SECONDS] [--cut BYTES] [--position] DIR [QUERY] [LOG]`
 pub fn live_command<'a>(alloc: Global) -> Result<Command<'a>, AllocError>
     ensures { IfOk result (λ c. app_of c ≡ live_app) }
 {
     let live = following_command(alloc)?
         .arg(option(alloc, "cut", "BYTES", help::CUT))?
+        .arg(flag(alloc, "position", help::POSITION))?
         .arg(file(alloc, "dir", "DIR", help::DIR))?
-        .arg(file(alloc, "query", "QUERY", help::QUERY_OR_PROGRAM))?
-        .arg(file(alloc, "log", "LOG", help::GROWING_LOG))?;
+        .arg(other_file(alloc, "query", "QUERY", help::QUERY_OR_PROGRAM))?
+        .arg(other_file(alloc, "log", "LOG", help::GROWING_LOG))?;
     Ok(live)
 }
 
-// `live [--program] --from SOURCE [--lost WHERE] [--health FILE] [--patience SECONDS]`
+// `live [--program] [--from SOURCE] [--lost WHERE] [--health FILE] [--patience SECONDS]`
 fn following_command<'a>(alloc: Global) -> Result<Command<'a>, AllocError>
     ensures { IfOk result (λ c. app_of c ≡ following_app) }
 {
     let live = command(alloc, "live", help::LIVE, help::LIVE_EXAMPLE)
         .arg(flag(alloc, "program", help::IS_PROGRAM))?
-        .arg(needed(alloc, "from", "SOURCE", help::SOURCE))?
+        .arg(option(alloc, "from", "SOURCE", help::SOURCE))?
         .arg(option(alloc, "lost", "WHERE", help::LOST))?
         .arg(option(alloc, "health", "FILE", help::HEALTH))?
         .arg(option(alloc, "patience", "SECONDS", help::PATIENCE))?;
@@ -43,14 +44,15 @@ pub fn live_job(alloc: Global, inner: &ArgMatches<'_>) -> Result<Job, WordsRefus
     ensures refused { IfErr result IsMemory }
 {
     let program = flag_of(inner, "program");
-    let from = file_of(alloc, inner, "from")?;
+    let from = option_of(alloc, inner, "from")?;
     let lost = option_of(alloc, inner, "lost")?;
     let health = option_of(alloc, inner, "health")?;
     let patience = option_of(alloc, inner, "patience")?;
     let cut = option_of(alloc, inner, "cut")?;
+    let position = flag_of(inner, "position");
     let dir = file_of(alloc, inner, "dir")?;
-    let query = file_of(alloc, inner, "query")?;
-    let log = file_of(alloc, inner, "log")?;
+    let query = option_of(alloc, inner, "query")?;
+    let log = option_of(alloc, inner, "log")?;
     Ok(Job::Live(LiveJob {
         program,
         from,
@@ -58,6 +60,7 @@ pub fn live_job(alloc: Global, inner: &ArgMatches<'_>) -> Result<Job, WordsRefus
         health,
         patience,
         cut,
+        position,
         dir,
         query,
         log,

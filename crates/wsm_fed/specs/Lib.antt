@@ -1,0 +1,4 @@
+pub mod Fed
+pub mod FedRows
+pub mod Seen
+pub mod Written
