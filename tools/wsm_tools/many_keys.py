@@ -479,7 +479,7 @@ def each(client: Any, told: str, task: Callable[..., T], works: Sequence[Sequenc
 class Job:
     def __init__(self, asked: Namespace, room: str, client: Any, parted: Parted, parts: int) -> None:
         self.asked, self.room, self.client, self.parted, self.parts = asked, room, client, parted, parts
-        self.keys = os.path.abspath(asked.keys)
+        self.keys = os.path.join(os.getcwd(), asked.keys)
 
     def place(self, name: str) -> str:
         return os.path.join(self.room, name)
@@ -619,6 +619,7 @@ def positive(word: str) -> int:
 
 
 def words() -> Namespace:
+    from pathlib import Path
     from shutil import which
 
     parser = telling.parser_of("many-keys", __doc__)
@@ -632,9 +633,9 @@ def words() -> Namespace:
     parser.add_argument("keys")
     parser.add_argument("rows", nargs="+")
     asked = parser.parse_args()
-    asked.query, asked.keys = map(os.path.normpath, (asked.query, asked.keys))
-    asked.rows = [*map(os.path.abspath, asked.rows)]
-    asked.program = os.path.abspath(which(asked.program) or asked.program)  # workers elsewhere have other folders
+    asked.query, asked.keys = str(Path(asked.query)), str(Path(asked.keys))
+    asked.rows = [str(Path(path).absolute()) for path in asked.rows]
+    asked.program = str(Path(which(asked.program) or asked.program).absolute())  # workers elsewhere have other folders
     return asked
 
 

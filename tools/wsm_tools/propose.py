@@ -559,7 +559,9 @@ def head_of(keys: Sequence[str], fields: Sequence[LogField], events: Sequence[Ev
 
 
 def names_file(source: str) -> str:
-    return f"{os.path.splitext(os.path.normpath(source))[0]}.names.csv"
+    from pathlib import Path
+
+    return str(Path(source).with_suffix(".names.csv"))
 
 
 def written(path: str, text: str) -> None:
@@ -602,7 +604,7 @@ def propose(log: Log, asked: Namespace) -> int:
     if asked.source is None:
         sys.stdout.write(f"{found.source}# QUERY\n")
     else:
-        written(os.path.normpath(asked.source), found.source)
+        written(asked.source, found.source)
         if found.names is not None:
             written(names_file(asked.source), found.names)
             tell(f"{names_file(asked.source)} gives keys to names that can't be keys")
