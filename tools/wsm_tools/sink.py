@@ -1,7 +1,7 @@
 """Takes what a run writes into tables, each line once, however often the run is begun anew over its rows.
 
 usage: wsm run QUERY [ROWS] | sink [--part NAME] [--keys KEYS] [--columns NAME,..] [--rows ROWS] [--from SOURCE] [--program PROGRAM] TABLE QUERY
-       sink [--part NAME] [--columns NAME,..] --taken TABLE QUERY
+       sink [--part NAME] [--columns NAME,..] [--rows ROWS] --taken TABLE QUERY
        wsm live DIR --from SOURCE QUERY LOG | sink [--part NAME] [--columns NAME,..] --live DIR TABLE QUERY
 
 For example: wsm run invoice.wsm rows.csv | sink --columns calls,bytes invoice.db invoice.wsm

@@ -37,7 +37,9 @@ impl Health {
         taker: &T,
         counts: &Counts,
     ) -> Result<Vec<u8>, AllocError> {
-        let mut numbers = Vec::from_slice(alloc, &self.numbers())?;
+        let mut numbers = Vec::from_slice(alloc, &self.of_log())?;
+        numbers.extend_from_slice(&self.of_journal())?;
+        numbers.extend_from_slice(&self.of_sinks())?;
         taker.measure(&mut numbers)?;
         let mut text = metrics_text(alloc, &numbers)?;
         counts.kinds.write(
@@ -53,8 +55,8 @@ impl Health {
         Ok(text)
     }
 
-    // Its numbers that have no word.
-    fn numbers(&self) -> [Metric<'static>; 9] {
+    // What was read of the log.
+    fn of_log(&self) -> [Metric<'static>; 3] {
         [
             Metric::counter(
                 "wsm_live_lines_total",
@@ -71,6 +73,12 @@ impl Health {
                 "Seconds since a line came.",
                 self.quiet,
             ),
+        ]
+    }
+
+    // What is kept, and when.
+    fn of_journal(&self) -> [Metric<'static>; 4] {
+        [
             Metric::gauge(
                 "wsm_live_journal_bytes",
                 "Bytes of the journal.",
@@ -91,6 +99,12 @@ impl Health {
                 "When these numbers were taken, since 1970.",
                 self.now,
             ),
+        ]
+    }
+
+    // What was handed out.
+    fn of_sinks(&self) -> [Metric<'static>; 2] {
+        [
             Metric::counter(
                 "wsm_live_handed_total",
                 "Lines that were handed out.",
