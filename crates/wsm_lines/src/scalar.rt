@@ -1,7 +1,8 @@
 //! Lines taken apart, and what stands at their places.
 ghost use Rattle.std.specs.Prelude.{◌≡◌, option_map};
-ghost use Rattle.json.specs.Find.{get};
-ghost use Rattle.json.specs.Value.{value_view};
+ghost use Rattle.std.specs.Str.{bytes_eq};
+ghost use Rattle.json.specs.Find.{get, get_member};
+ghost use Rattle.json.specs.Value.{members_view, value_view};
 ghost use Rattle.wsm_lines.specs.Scalar.{found_at, of_cell, of_found, of_json, scalar_at};
 ghost use Rattle.wsm_lines.specs.Seen.{scalar_seen, taken_seen};
 
@@ -34,11 +35,39 @@ pub enum Taken<'a> {
     Csv(&'a Texts),
 }
 
+// Whether two names are the same. Most have other lengths, which is told here.
+#[inline(always)]
+fn is_named(key: &str, name: &str) -> bool
+    ensures { result ≡ bytes_eq key.now name.now }
+{
+    key.len() == name.len() && key == name
+}
+
+// The last member of that name.
+#[inline(always)]
+fn last_named<'v, 'a>(members: &'v Vec<(&'a str, Value<'a>)>, name: &str) -> Option<&'v Value<'a>>
+    ensures { option_map (λ v. value_view v.now) result ≡ get_member name.now (members_view members.now.items) }
+{
+    let mut left = members.len();
+    while left > 0 {
+        left -= 1;
+        let member = &members[left];
+        if is_named(member.0, name) {
+            return Some(&member.1);
+        }
+    }
+    None
+}
+
 // The member of that name.
 fn member<'v, 'a>(value: &'v Value<'a>, name: &Word) -> Option<&'v Value<'a>>
     ensures { option_map (λ v. value_view v.now) result ≡ get name.now (value_view value.now) }
 {
-    value.get(name.as_str())
+    if let Value::Object(members) = value {
+        last_named(members, name.as_str())
+    } else {
+        None
+    }
 }
 
 // The value that members lead to.
