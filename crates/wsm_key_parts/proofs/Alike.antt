@@ -86,11 +86,6 @@ module _ (q : Query) (ok : IsShape q.shape) (timely : SessionsByEvent q) (low : 
     kept_same (Rises old new) panes = refl
     kept_same Nothing panes = refl
 
-    fired_same : (n : ℕ) (x : Effect) (panes : List (Place × Kept)) → fired_by o n x panes ≡ fired_by q n x panes
-    fired_same n (Selects d) panes = refl
-    fired_same n (Rises old new) panes = refl
-    fired_same n Nothing panes = refl
-
     rows_same : (n : ℕ) (x : Effect) (panes : List (Place × Kept)) → rows_from o n x panes ≡ rows_from q n x panes
     rows_same n (Selects d) panes = refl
     rows_same n (Rises old new) panes = refl

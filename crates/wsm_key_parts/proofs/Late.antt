@@ -61,9 +61,6 @@ module _ (q : Query) where
 
 -- ---- blanks and openers
 
-blanks : ℕ → List Event
-blanks n = replicate n blank
-
 quiet_blanks : (n : ℕ) → AreQuiet (replicate n blank)
 quiet_blanks zero = tt
 quiet_blanks (suc n) = (tt, quiet_blanks n)

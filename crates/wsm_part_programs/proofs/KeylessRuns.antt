@@ -4,7 +4,6 @@ use Rattle.std.proofs.lemmas.Bool.{true≢false, and_parts}
 use Rattle.std.specs.Prelude.{◌-◌, slice_get}
 use Rattle.std.specs.Option.{option_and_then}
 use Rattle.wsm_record.specs.declared.event.Value.{Value}
-use Rattle.wsm_record.specs.declared.cell.Cell.{Cell}
 use Rattle.wsm_fold.specs.Fold.{folds_of}
 use Rattle.wsm_semantics.specs.Query.{Datum}
 use Rattle.wsm_semantics.specs.ByNumber.{Numbers, datum_by}
@@ -17,7 +16,7 @@ use Rattle.wsm_program.specs.Program.{Program}
 use Rattle.wsm_machine.specs.declared.run.Ran.{Ran}
 use Rattle.wsm_machine.specs.Inputs.{Inputs}
 use Rattle.wsm_machine.specs.InRange.{folded_value}
-use Rattle.wsm_machine.specs.Step.{Setting, setting, State, step, pushed, jump}
+use Rattle.wsm_machine.specs.Step.{Setting, setting, State, step}
 use Rattle.wsm_machine.specs.Run.{act, go_on, run_from, entry}
 use Rattle.wsm_machine.specs.Meaning.{query_of, record_inputs, pane_inputs, where_run, update_run, fire_run, says_true, columns_of, updated, folded}
 use Rattle.wsm_key_parts.specs.Parts.{IgnoresKeys}
@@ -37,31 +36,6 @@ reads_none (y ∷ ys) all zero x h = ap reads_key (sym (same_some y x h)) ∙ pa
 reads_none (y ∷ ys) all (suc n) x h = reads_none ys (and_parts _ _ all).1 n x h
 
 -- ---- a step
-
-module _ (i : Inputs) (key : ℕ) where
-  abbrev of_key : Inputs
-  of_key = record i { key = key }
-
-  pushed_alike : (x : Instr) → reads_key x ≡ false → (stack : List Cell) → pushed of_key x stack ≡ pushed i x stack
-  pushed_alike (PushInt n) h stack = refl
-  pushed_alike (PushBool b) h stack = refl
-  pushed_alike (PushEnum e n) h stack = refl
-  pushed_alike (Field f) h stack = refl
-  pushed_alike Key h stack = absurd (true≢false h)
-  pushed_alike (Acc a) h stack = refl
-  pushed_alike Count h stack = refl
-  pushed_alike (Compute a) h stack = refl
-  pushed_alike Neg h stack = refl
-  pushed_alike (Compare c) h stack = refl
-  pushed_alike Not h stack = refl
-  pushed_alike (Jump t) h stack = refl
-  pushed_alike (JumpIfFalse t) h stack = refl
-  pushed_alike (Test test t) h stack = refl
-  pushed_alike (Fold a) h stack = refl
-  pushed_alike Return h stack = refl
-
-  jump_alike : (x : Instr) (stack : List Cell) → jump of_key x stack ≡ jump i x stack
-  jump_alike x stack = refl
 
 module _ (c : Setting) (key : ℕ) where
   abbrev with_key : Setting
