@@ -47,7 +47,8 @@ pub fn name_at(
 ) -> Result<(CellType, Term), CheckRefusal>
     requires { length schema.now.fields ≤ MAX_FIELDS }
     ensures typed { IfOk result (λ t. name_ty schema.now.fields field.now name.now ≡ Ok t.0) }
-    ensures term { IfOk result (λ t. seen_term t.1 ≡ terms.Name (suc (field_place schema.now.fields field.now)) (name_place schema.now.fields field.now name.now)) }
+    ensures term { IfOk result (λ t. seen_term t.1
+        ≡ terms.Name (suc (field_place schema.now.fields field.now)) (name_place schema.now.fields field.now name.now)) }
     ensures refused { IfErr result (λ r. typed_refusal part (name_ty schema.now.fields field.now name.now) ≡ Some r) }
 {
     let Some((number, ty)) = field_named(schema.fields(), field) else {

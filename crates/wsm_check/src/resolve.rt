@@ -168,7 +168,8 @@ pub fn boxed_as(
     requires { length schema.now.fields ≤ MAX_FIELDS }
     ensures resolved { (q : Query) → schema.now ≡ schema_of q →
         IfOk result (λ b. ResolvesAs q place.around ty (seen_expr expr.now) (map seen_folding foldings.old.items) (map seen_folding foldings.new.items) (seen_term b.value)) }
-    ensures refused { (q : Query) → schema.now ≡ schema_of q → IfErr result (λ r. IsRefused place.part (typed_as ty (typed q place.around (seen_expr expr.now))) r) }
+    ensures refused { (q : Query) → schema.now ≡ schema_of q →
+        IfErr result (λ r. IsRefused place.part (typed_as ty (typed q place.around (seen_expr expr.now))) r) }
 {
     let (given, term) = boxed(alloc, schema, place, expr, foldings)?;
     told(place.part, want(given == ty, ty))?;
@@ -189,7 +190,8 @@ fn aggregate(
     requires { length schema.now.fields ≤ MAX_FIELDS }
     ensures resolved { (q : Query) → schema.now ≡ schema_of q →
         IfOk result (λ t. Resolves q place.around (Aggregate kind (seen_expr operand.now)) (map seen_folding foldings.old.items) (map seen_folding foldings.new.items) t.0 (seen_term t.1)) }
-    ensures refused { (q : Query) → schema.now ≡ schema_of q → IfErr result (λ r. IsRefused place.part (typed q place.around (Aggregate kind (seen_expr operand.now))) r) }
+    ensures refused { (q : Query) → schema.now ≡ schema_of q →
+        IfErr result (λ r. IsRefused place.part (typed q place.around (Aggregate kind (seen_expr operand.now))) r) }
 {
     enter(place)?;
     let inside = Place {

@@ -1,7 +1,7 @@
 -- A turn of what an engine keeps fits the history with its event, writes its rows and answers as the
 -- meaning does: the relation is read where changes against it are written, and nowhere else.
 use Rattle.std.proofs.Common.{◌≡◌, ℕ, ◌+◌, ◌≤◌, ◌++◌, Bool, true, false, ◌&&◌, cond, is_none, List, [], ◌∷◌, map, length, ℤ, pos, ◌≤ℤ◌, Option, Some, None, IsTrue, refl, sym, ap, subst, ◌∙◌, arith}
-use Rattle.std.specs.Prelude.{Ok, Err, Result, IsSome, filter_map, sum}
+use Rattle.std.specs.Prelude.{Ok, Err, Result, IfSome, filter_map, sum}
 use Rattle.wsm_record.specs.declared.event.Value.{Value}
 use Rattle.wsm_record.specs.declared.cell.Cell.{Cell}
 use Rattle.wsm_record.specs.declared.words.Form.{Form}
@@ -42,7 +42,7 @@ use Rattle.wsm_engine.specs.State.{State}
 use Rattle.wsm_firing.specs.declared.tally.Tally.{Tally}
 use Rattle.wsm_firing.specs.Tally.{greatest, tally_of}
 use Rattle.wsm_firing.specs.Streams.{relation_kept}
-use Rattle.wsm_engine.specs.Meaning.{reply_to, selects_record, Fits, IsRefused, KeepsRelation}
+use Rattle.wsm_engine.specs.Meaning.{reply_to, selects_record, Fits, KeepsRelation, counted, refused_state}
 use Rattle.wsm_engine.specs.Turn.{turn, refusal_of, reply_by, selected_by}
 
 -- ---- with another relation
@@ -202,9 +202,9 @@ module _ (s : State) (whole : IsTrue (is_program s.program)) (past : List Event)
 
 -- ---- a refused event changes counters alone
 
-refused_after : (s : admission.State) (r : Refusal) (e : Event) → ((after (Err r) e s).mark ≡ s.mark) × ((after (Err r) e s).admitted ≡ s.admitted)
-refused_after s refusal.Late e = (refl, refl)
-refused_after s _ e = (refl, refl)
+counted_after : (s : admission.State) (r : Refusal) (e : Event) → counted r s ≡ after (Err r) e s
+counted_after s refusal.Late e = refl
+counted_after s _ e = refl
 
 none_retracted : (m : Mode) → retracted_in m [] ++ [] ≡ []
 none_retracted mode.Discarding = refl
@@ -225,21 +225,6 @@ as_before form.Rstream r = refl
 
 stays : (n : ℕ) → n ≤ 18446744073709551615 → admission.counter (n + 0) ≡ n
 stays n h = omega (arith, h)
-
-pub refused_turn : (s : State) → s.machine.fired ≤ 18446744073709551615 → (e : Event) → IsSome (reply_by s e).refusal → IsRefused s (turn s e)
-refused_turn s few e some = by_answer (answer_to (plan_of s.program) (query_of s.program) s.machine e) refl some
-  where
-    by_answer : (a : Result Admitted Refusal) → a ≡ answer_to (plan_of s.program) (query_of s.program) s.machine e → IsSome (refusal_of a) → IsRefused s (turn s e)
-    by_answer (Ok a) is some = absurd (cc)
-    by_answer (Err r) is some = record {
-      panes = λ i. panes_after (plan_of s.program) (query_of s.program) (sym is i) e s.machine;
-      relation = (λ i. relation_kept s.program.header.form s.machine.relation (relation_after (plan_of s.program) (query_of s.program) (sym is i) s.machine)) ∙ as_before s.program.header.form s.machine.relation;
-      rows = (λ i. chosen_rows s.program.header.form (retracted_in s.program.header.mode (withdrawn_by (plan_of s.program) (query_of s.program) (sym is i) e s.machine) ++ filter_map (row_of (plan_of s.program)) (fired_by (plan_of s.program) (query_of s.program) (sym is i) e s.machine)) (streamed_by (plan_of s.program) (query_of s.program) s.program.header.form (sym is i) s.machine))
-          ∙ no_rows s.program s.machine r e s.program.header.mode s.program.header.form;
-      mark = (λ i. (after (sym is i) e s.machine.admission).mark) ∙ (refused_after s.machine.admission r e).0;
-      admitted = (λ i. (after (sym is i) e s.machine.admission).admitted) ∙ (refused_after s.machine.admission r e).1;
-      fired = (λ i. admission.counter (s.machine.fired + length (fired_by (plan_of s.program) (query_of s.program) (sym is i) e s.machine))) ∙ stays s.machine.fired few;
-    }
 
 -- ---- the turn by the answer
 
@@ -265,6 +250,16 @@ turned_is s e a is kept panes related fed fired rows room hk hp hr hf hn ho hc =
       rows = chosen_rows s.program.header.form (retracted_in s.program.header.mode (withdrawn_by (plan_of s.program) (query_of s.program) (is i) e s.machine) ++ filter_map (row_of (plan_of s.program)) (fired_by (plan_of s.program) (query_of s.program) (is i) e s.machine)) (streamed_by (plan_of s.program) (query_of s.program) s.program.header.form (is i) s.machine);
       room = s.room;
     })
+
+-- a refused event is counted, and changes nothing else
+pub refused_turn : (s : State) → s.machine.fired ≤ 18446744073709551615 → (e : Event) → IfSome (reply_by s e).refusal (λ r. turn s e ≡ refused_state s r)
+refused_turn s few e = by_answer (answer_to (plan_of s.program) (query_of s.program) s.machine e) refl
+  where
+    by_answer : (a : Result Admitted Refusal) → a ≡ answer_to (plan_of s.program) (query_of s.program) s.machine e → IfSome (refusal_of a) (λ r. turn s e ≡ refused_state s r)
+    by_answer (Ok a) is = tt
+    by_answer (Err r) is = sym (turned_is s e (Err r) is (counted r s.machine.admission) s.machine.panes s.machine.relation (admission.counter (s.machine.fed + 1)) s.machine.fired [] s.room
+        (counted_after s.machine.admission r e) refl (sym (as_before s.program.header.form s.machine.relation)) refl (sym (stays s.machine.fired few))
+        (sym (no_rows s.program s.machine r e s.program.header.mode s.program.header.form)) refl)
 
 -- an event comes to the operator of an engine that fits a history
 pub comes_of : (s : State) (past : List Event) → Fits s past → (h : Held) → entries_of h ≡ s.machine.panes → (m : ℤ) → m ≡ s.machine.admission.mark → IsTime m → (a : Result Admitted Refusal) (e : Event) → IsTime (mark (query_of s.program) (e ∷ past))

@@ -27,7 +27,8 @@ use Rattle.wsm_rules.specs.Costs.{needed}
 use Rattle.wsm_machine.specs.Meaning.{query_of, plan_of, selects, updated, where_run, update_run, record_cost_by}
 use Rattle.wsm_machine.specs.Sound.{IsDatumInRange}
 use Rattle.wsm_machine.proofs.TurnCosts.{record_cost_within}
-use Rattle.wsm_panes.specs.Held.{Held, entries_of, taking, with_entered, session_entered, joins_sessions, windows_entered, CanEnter}
+use Rattle.wsm_panes.specs.Held.{Held, entries_of, with_entered, session_entered, joins_sessions, windows_entered, CanEnter}
+use Rattle.wsm_slots.specs.Panes.{taking}
 use Rattle.wsm_firing.specs.ByRecord.{CanFireByRecord}
 use Rattle.wsm_firing.proofs.Entered.{entered_alone}
 use Rattle.wsm_firing.specs.ByWatermark.{CanFireByWatermark}

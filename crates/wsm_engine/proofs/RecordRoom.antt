@@ -53,12 +53,13 @@ use Rattle.wsm_machine.proofs.SoundPanes.{joined_all_sound}
 use Rattle.wsm_machine.proofs.SoundSteps.{record_in_range, room_for_record, all_can_fire, joins_fit}
 use Rattle.wsm_machine.proofs.RunAnswers.{pane_fits}
 use Rattle.wsm_machine.proofs.SoundAccumulators.{row_folded, may_fire}
-use Rattle.wsm_panes.specs.declared.ring.Ring.{Ring}
-use Rattle.wsm_panes.specs.declared.widths.Widths.{Widths}
-use Rattle.wsm_panes.specs.Held.{Held, entries_of, ring_of, taking, with_entered, CanTake, IsRoomy, CanEnter}
-use Rattle.wsm_panes.specs.Ring.{IsNear, IsOfRing, IsRing, LieInRing}
-use Rattle.wsm_panes.proofs.Live.{held_near, some_live}
-use Rattle.wsm_panes.proofs.Rings.{grid_start}
+use Rattle.wsm_ring.specs.declared.ring.Ring.{Ring}
+use Rattle.wsm_slots.specs.declared.widths.Widths.{Widths}
+use Rattle.wsm_panes.specs.Held.{Held, entries_of, ring_of, with_entered, IsRoomy, CanEnter}
+use Rattle.wsm_slots.specs.Panes.{taking, CanTake}
+use Rattle.wsm_ring.specs.Ring.{IsNear, IsOfRing, IsRing, LieInRing}
+use Rattle.wsm_ring.proofs.Live.{held_near, some_live}
+use Rattle.wsm_ring.proofs.Rings.{grid_start}
 use Rattle.wsm_engine.specs.Operator.{widths_of}
 use Rattle.wsm_engine.proofs.Limits.{clock_within, panes_few}
 use Rattle.wsm_engine.proofs.RecordsByPlan.{entered_same}

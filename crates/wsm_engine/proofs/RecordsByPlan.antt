@@ -19,7 +19,7 @@ use Rattle.wsm_semantics.specs.Kept.{is_linked}
 use Rattle.wsm_semantics.specs.Summaries.{Plan, Pane, linked, session_with, with_folded, with_record, joined_with, joined_all, assigned, merged_session, entered, all_fired, fires, kind_by_record, after_record, fired_by_record, withdrawn_by_record, withdrawn_entering, withdrawn_firing}
 use Rattle.wsm_semantics.specs.Replay.{datum}
 use Rattle.wsm_program.specs.Program.{Program}
-use Rattle.wsm_panes.specs.Held.{taking}
+use Rattle.wsm_slots.specs.Panes.{taking}
 use Rattle.wsm_machine.specs.Meaning.{plan_of, query_of, updated}
 use Rattle.wsm_firing.specs.ByRecord.{fires_by_record, withdrawn_of_record}
 

@@ -18,7 +18,7 @@ use Rattle.wsm_firing.proofs.StandingRows.{few_rows}
 use Rattle.wsm_semantics.specs.HeldBounds.{most_panes, most_rows}
 use Rattle.wsm_program.specs.Program.{Program}
 use Rattle.wsm_machine.specs.Meaning.{query_of}
-use Rattle.wsm_panes.specs.declared.widths.Widths.{Widths}
+use Rattle.wsm_slots.specs.declared.widths.Widths.{Widths}
 use Rattle.wsm_panes.specs.Held.{Held, IsKept, entries_of}
 use Rattle.wsm_firing.specs.Operator.{AreReady}
 use Rattle.wsm_firing.specs.declared.operator.WindowOperator.{WindowOperator}

@@ -1,8 +1,10 @@
 -- What an engine means: how it fits a history, and what it answers to the next event.
-use Rattle.std.specs.Prelude.{◌≡◌, ◌≤◌, Bool, true, false, List, [], ◌∷◌, map, length, sum, IsSome}
+use Rattle.std.specs.Prelude.{◌≡◌, ◌≤◌, ◌+◌, Bool, true, false, List, [], ◌∷◌, map, length, sum, IfSome}
 use Rattle.wsm_record.specs.declared.words.Form.{Form}
 use Rattle.wsm_record.specs.declared.words.Form.TheVariants as form
 use Rattle.wsm_record.specs.Event.{Event}
+use Rattle.wsm_admission.specs.declared.verdict.Refusal.{Refusal}
+use Rattle.wsm_admission.specs.declared.verdict.Refusal.TheVariants as refusal
 use Rattle.wsm_admission.specs.Clock.{admitted_count, late_count, refused_count}
 use Rattle.wsm_admission.specs.Admission as admission
 use Rattle.wsm_admission.specs.Admission.{counter}
@@ -61,14 +63,14 @@ pub record Fits (s : State) (past : List Event) : Type 0 where
   pub fed : s.machine.fed ≡ counter (length past)
   pub fired : s.machine.fired ≡ counter (length (firings_so_far (query_of s.program) past))
 
--- a refused event changes counters alone, and writes no row
-pub record IsRefused (old new : State) : Type 0 where
-  pub panes : new.machine.panes ≡ old.machine.panes
-  pub relation : new.machine.relation ≡ old.machine.relation
-  pub rows : new.rows ≡ []
-  pub mark : new.machine.admission.mark ≡ old.machine.admission.mark
-  pub admitted : new.machine.admission.admitted ≡ old.machine.admission.admitted
-  pub fired : new.machine.fired ≡ old.machine.fired
+-- a refusal is counted, as late or as refused
+abbrev pub counted : Refusal → admission.State → admission.State
+counted refusal.Late s = record s { late = counter (s.late + 1) }
+counted _ s = record s { refused = counter (s.refused + 1) }
+
+-- a refused event is counted, and changes nothing else; it writes no row
+abbrev pub refused_state : State → Refusal → State
+refused_state s r = record s { machine = record s.machine { admission = counted r s.machine.admission; fed = counter (s.machine.fed + 1) }; rows = [] }
 
 -- an engine takes an event: what it keeps then fits the history with the event in front, and its reply
 -- and its rows are the definition's for that history
@@ -78,6 +80,6 @@ pub record Feeds (old new : State) (e : Event) (result : Reply) : Type 0 where
   pub reply : (past : List Event) → Fits old past → result ≡ reply_to old.program past e
   pub rows : (past : List Event) → Fits old past → new.rows ≡ turn_rows (query_of old.program) past e
   pub room : new.room ≡ old.room
-  pub refused : IsSome result.refusal → IsRefused old new
+  pub refused : IfSome result.refusal (λ r. new ≡ refused_state old r)
   pub record_within : result.record_steps ≤ old.program.header.budget.per_record
   pub pane_within : result.pane_steps_max ≤ old.program.header.budget.per_pane

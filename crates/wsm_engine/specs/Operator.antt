@@ -1,5 +1,5 @@
 -- The operator of a program: for what it has room, and what it keeps as an event comes.
-use Rattle.std.specs.Prelude.{◌≡◌, Option, pos, ℕ, ◌*◌, ◌+◌, ◌≤◌, List, [], ◌∷◌, ◌++◌, length, filter_map, ℤ, int_lt, Result, Ok, if◌then◌else◌}
+use Rattle.std.specs.Prelude.{◌≡◌, Option, pos, ℕ, ◌*◌, ◌+◌, ◌≤◌, List, [], ◌∷◌, ◌++◌, length, filter_map, ℤ, int_lt, Result, Ok, if◌then◌else◌, IsTrue}
 use Rattle.wsm_record.specs.declared.event.Value.{Value}
 use Rattle.wsm_record.specs.declared.cell.Cell.{Cell}
 use Rattle.wsm_record.specs.Event.{Event}
@@ -24,11 +24,10 @@ use Rattle.wsm_program.specs.Program.{Header, Program, is_program}
 use Rattle.wsm_rules.specs.Costs.{needed}
 use Rattle.wsm_rules.specs.Rules.{judge}
 use Rattle.wsm_machine.specs.Meaning.{query_of, plan_of, selects, update_run, joins_sessions, windows_entered}
-use Rattle.wsm_panes.specs.declared.widths.Widths.{Widths}
+use Rattle.wsm_slots.specs.declared.widths.Widths.{Widths}
 use Rattle.wsm_panes.specs.Entered.{IsToldAlone}
 use Rattle.wsm_panes.specs.Held.{Held, entries_of, session_entered}
 use Rattle.wsm_firing.specs.Streams.{Told, IsTold, relation_before, standing_rows}
-use Rattle.std.specs.Prelude.{IsTrue}
 use Rattle.wsm_windows.specs.declared.place.Place.{Place}
 use Rattle.wsm_firing.specs.declared.operator.WindowOperator.{WindowOperator}
 

@@ -8,8 +8,7 @@ ghost use Rattle.wsm_machine.specs.Meaning.{record_inputs as inputs_of_record, s
 ghost use Rattle.wsm_panes.specs.Held.{IsKept};
 ghost use Rattle.wsm_firing.specs.Tally.{nothing};
 ghost use Rattle.wsm_firing.specs.Streams.{AreAlike, CanAdvance, HasRoomFor, TellsPanes};
-ghost use Rattle.wsm_engine.specs.Acts.{Acts, AdvancesOnRise, Arrives, LeavesRoom, Rises, TakesRecord, TakesWatermark, WritesOnRise};
-ghost use Rattle.wsm_engine.specs.Acts.{panes_of, panes_once_entered, rows_entering};
+ghost use Rattle.wsm_engine.specs.Acts.{Acts, AdvancesOnRise, Arrives, LeavesRoom, Rises, TakesRecord, TakesWatermark, WritesOnRise, panes_of, panes_once_entered, rows_entering};
 ghost use Rattle.wsm_engine.specs.Operator.{Comes, IsAlone, IsOf, entering_cost};
 
 use wsm_admission::{Admitted, Refusal};

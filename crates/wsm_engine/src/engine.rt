@@ -1,6 +1,6 @@
 //! The engine of a verified program.
 
-ghost use Rattle.std.specs.Prelude.{◌≡◌, ◌≤◌, List, [], ◌∷◌, length, Ok, IfOk, IfErr, IsSome, IsTrue};
+ghost use Rattle.std.specs.Prelude.{◌≡◌, ◌≤◌, List, [], ◌∷◌, length, Ok, IfOk, IfErr, IfSome, IsTrue};
 ghost use Rattle.wsm_record.specs.Event.{Event as AnyEvent, event_of};
 ghost use Rattle.wsm_admission.specs.Clock.{fits_declared};
 ghost use Rattle.wsm_semantics.specs.Panes.{held};
@@ -10,7 +10,7 @@ ghost use Rattle.wsm_program.specs.Program.{is_program};
 ghost use Rattle.wsm_rules.specs.Costs.{needed};
 ghost use Rattle.wsm_rules.specs.Rules.{judge};
 ghost use Rattle.wsm_machine.specs.Meaning.{query_of};
-ghost use Rattle.wsm_engine.specs.Meaning.{Feeds, Fits, IsRefused, reply_to, totals_of};
+ghost use Rattle.wsm_engine.specs.Meaning.{Feeds, Fits, refused_state, reply_to, totals_of};
 ghost use Rattle.wsm_engine.specs.Turn.{turn, reply_by, refusal_of as spec_refusal_of};
 
 use crate::acting::act;
@@ -89,7 +89,7 @@ impl Engine {
         ensures reply { (past : List AnyEvent) → Fits self.old past → result ≡ reply_to self.old.program past (event_of event.now) }
         ensures rows { (past : List AnyEvent) → Fits self.old past → self.new.rows ≡ turn_rows (query_of self.old.program) past (event_of event.now) }
         ensures room { self.new.room ≡ self.old.room }
-        ensures refused { IsSome result.refusal → IsRefused self.old self.new }
+        ensures refused { IfSome result.refusal (λ r. self.new ≡ refused_state self.old r) }
         ensures record_within { result.record_steps ≤ self.old.program.header.budget.per_record }
         ensures pane_within { result.pane_steps_max ≤ self.old.program.header.budget.per_pane }
     {

@@ -35,20 +35,24 @@ ghost use Rattle.wsm_engine.specs.Laws.{RecordEnds, FiringEnds, RecordPaths, is_
 /// No run of a section meets a trap: WHERE and UPDATE come to their ends on each record that is
 /// admitted, and FIRE on each firing.
 pub fn never_traps()
-    ensures records { (p : Program) (costs : Costs) → judge p ≡ Ok costs → IsTrue (is_program p) → (past : List Event) (key : ℕ) (time : ℤ) (values : List Value)
+    ensures records { (p : Program) (costs : Costs) → judge p ≡ Ok costs → IsTrue (is_program p) →
+        (past : List Event) (key : ℕ) (time : ℤ) (values : List Value)
         → verdict_on (query_of p) past (Record (Some key) time values) ≡ None → RecordEnds p key values }
-    ensures firings { (p : Program) (costs : Costs) → judge p ≡ Ok costs → IsTrue (is_program p) → (past : List Event) (e : Event) → AllByRecursion (FiringEnds p) (firings (query_of p) past e) }
+    ensures firings { (p : Program) (costs : Costs) → judge p ≡ Ok costs → IsTrue (is_program p) → (past : List Event) (e : Event) →
+        AllByRecursion (FiringEnds p) (firings (query_of p) past e) }
 {}
 
 /// No more panes are held than the program states.
 pub fn held_within()
-    ensures { (p : Program) (costs : Costs) → judge p ≡ Ok costs → IsTrue (is_program p) → (past : List Event) → length (held (query_of p) past) ≤ p.header.budget.held }
+    ensures { (p : Program) (costs : Costs) → judge p ≡ Ok costs → IsTrue (is_program p) → (past : List Event) →
+        length (held (query_of p) past) ≤ p.header.budget.held }
 {}
 
 /// No turn takes more instructions for its record, and none of its firings more for its pane, than the
 /// program states.
 pub fn spends_within()
-    ensures records { (p : Program) (costs : Costs) → judge p ≡ Ok costs → IsTrue (is_program p) → (past : List Event) (e : Event) → record_cost p past e ≤ p.header.budget.per_record }
+    ensures records { (p : Program) (costs : Costs) → judge p ≡ Ok costs → IsTrue (is_program p) → (past : List Event) (e : Event) →
+        record_cost p past e ≤ p.header.budget.per_record }
     ensures panes { (p : Program) (costs : Costs) → judge p ≡ Ok costs → IsTrue (is_program p) → (past : List Event) (e : Event)
         → greatest (map (pane_cost p) (firings (query_of p) past e)) ≤ p.header.budget.per_pane }
 {}
@@ -63,7 +67,8 @@ pub fn shown_once()
 /// rise fires the same on time, with the same rows. Panes that discard what they showed are not to
 /// fire early for that, and sessions that discard not late either.
 pub fn permuted()
-    ensures { (p : Program) → IsTrue (is_program p) → IsOrderFree p.header.mode p.header.shape (unsigned_abs p.header.early) (unsigned_abs p.header.late) → OrderLaw (query_of p) }
+    ensures { (p : Program) → IsTrue (is_program p) → IsOrderFree p.header.mode p.header.shape (unsigned_abs p.header.early) (unsigned_abs p.header.late) →
+        OrderLaw (query_of p) }
 {}
 
 /// Where panes retract, the pane rows that were written are after every history, as a bag, those that were
@@ -93,14 +98,20 @@ pub fn by_key()
 pub fn from_watermark()
     ensures begun { (p : Program) → source_count p.header.schema ≡ 1 → (records : ℤ) (older : List Event)
         → BeginAlike (query_of p) (mark (query_of p) older) records (λ key. mark (query_of p) older +ℤ p.header.clock.skew) older [] (length older) }
-    ensures marks { (p : Program) (start records : ℤ) (older other : List Event) (longer : ℕ) → marks_of (begun_at start records (query_of p)).clock p.header.schema other ≡ marks_of p.header.clock p.header.schema older → length older ≡ length other + longer
+    ensures marks { (p : Program) (start records : ℤ) (older other : List Event) (longer : ℕ) →
+        marks_of (begun_at start records (query_of p)).clock p.header.schema other ≡ marks_of p.header.clock p.header.schema older →
+        length older ≡ length other + longer
         → BeginAlike (query_of p) start records (λ key. mark (query_of p) older +ℤ p.header.clock.skew) older other longer }
-    ensures events { (x : Times) (events older : List Event) → (whole (map Stays events) older ≡ events ++ older) × (rest (map Stays events) older ≡ events ++ older) × LeavesOut x (map Stays events) }
-    ensures panes { (p : Program) → IsTrue (is_program p) → (start records : ℤ) (x : Times) (older other : List Event) (longer : ℕ) → BeginAlike (query_of p) start records x older other longer
+    ensures events { (x : Times) (events older : List Event) →
+        (whole (map Stays events) older ≡ events ++ older) × (rest (map Stays events) older ≡ events ++ older) × LeavesOut x (map Stays events) }
+    ensures panes { (p : Program) → IsTrue (is_program p) → (start records : ℤ) (x : Times) (older other : List Event) (longer : ℕ) →
+        BeginAlike (query_of p) start records x older other longer
         → SameAfter (query_of p) start records x older other longer }
-    ensures rows { (p : Program) → IsTrue (is_program p) → (start records : ℤ) (x : Times) (older other : List Event) (longer : ℕ) → BeginAlike (query_of p) start records x older other longer
+    ensures rows { (p : Program) → IsTrue (is_program p) → (start records : ℤ) (x : Times) (older other : List Event) (longer : ℕ) →
+        BeginAlike (query_of p) start records x older other longer
         → SameRowsAfter (query_of p) start records x older other }
-    ensures settled { (p : Program) → IsTrue (is_program p) → HasNoSessions (query_of p) → (start records : ℤ) (x : Times) (older other : List Event) (longer : ℕ) → BeginAlike (query_of p) start records x older other longer
+    ensures settled { (p : Program) → IsTrue (is_program p) → HasNoSessions (query_of p) →
+        (start records : ℤ) (x : Times) (older other : List Event) (longer : ℕ) → BeginAlike (query_of p) start records x older other longer
         → SameOnceSettled (LeavesOut x) (query_of p) start records x older other longer }
 {}
 
@@ -111,17 +122,22 @@ pub fn from_watermark()
 pub fn left_out()
     ensures panes { (p : Program) → IsTrue (is_program p) → (records : ℤ) (x : Times) → SameBeyond (query_of p) records x }
     ensures rows { (p : Program) → IsTrue (is_program p) → (records : ℤ) (x : Times) → SameRowsBeyond (query_of p) records x }
-    ensures settled { (p : Program) → IsTrue (is_program p) → (records : ℤ) (x : Times) → let q = query_of p in SameOnceSettled (MayLeaveOut q q.clock.start records x) q q.clock.start records x [] [] 0 }
-    ensures coming { (p : Program) → IsTrue (is_program p) → (x : Times) (past : List Event) (e : Event) → IsSettled (query_of p) x (mark (query_of p) past) → PartsNoSession (query_of p) x past → PartsNoSession (query_of p) x (e ∷ past) }
-    ensures times { (p : Program) → IsTrue (is_program p) → (past : List Event) → let q = query_of p in IsSettled q (dropped_times q past) (mark q past) × PartsNoSession q (dropped_times q past) past }
+    ensures settled { (p : Program) → IsTrue (is_program p) → (records : ℤ) (x : Times) →
+        let q = query_of p in SameOnceSettled (MayLeaveOut q q.clock.start records x) q q.clock.start records x [] [] 0 }
+    ensures coming { (p : Program) → IsTrue (is_program p) → (x : Times) (past : List Event) (e : Event) → IsSettled (query_of p) x (mark (query_of p) past) →
+        PartsNoSession (query_of p) x past → PartsNoSession (query_of p) x (e ∷ past) }
+    ensures times { (p : Program) → IsTrue (is_program p) → (past : List Event) →
+        let q = query_of p in IsSettled q (dropped_times q past) (mark q past) × PartsNoSession q (dropped_times q past) past }
 {}
 
 /// What follows on a history hangs on what is kept of it alone: on the marks of the sources, and on how many records each
 /// held pane has, how many of these weren't shown, what its accumulators hold and which row stands for it. So of a watermark
 /// that another comes right behind nothing follows.
 pub fn kept_decides()
-    ensures following { (p : Program) → IsTrue (is_program p) → (start records : ℤ) (past other : List Event) → KeepAlike (plan_of p) (query_of p) start records past other → FollowAlike (plan_of p) (query_of p) start records past other }
-    ensures watermarks { (p : Program) → IsTrue (is_program p) → (past : List Event) (o r : Option ℕ) (t u : ℤ) → let q = query_of p in marks_of q.clock q.declared (Watermark r u ∷ Watermark o t ∷ past) ≡ marks_of q.clock q.declared (Watermark r u ∷ past)
+    ensures following { (p : Program) → IsTrue (is_program p) → (start records : ℤ) (past other : List Event) →
+        KeepAlike (plan_of p) (query_of p) start records past other → FollowAlike (plan_of p) (query_of p) start records past other }
+    ensures watermarks { (p : Program) → IsTrue (is_program p) → (past : List Event) (o r : Option ℕ) (t u : ℤ) →
+        let q = query_of p in marks_of q.clock q.declared (Watermark r u ∷ Watermark o t ∷ past) ≡ marks_of q.clock q.declared (Watermark r u ∷ past)
         → FollowAlike (plan_of p) q q.clock.start q.clock.records (Watermark r u ∷ Watermark o t ∷ past) (Watermark r u ∷ past) }
 {}
 
@@ -133,19 +149,22 @@ pub fn kept_decides()
 pub fn needed_alone()
     ensures needed { (p : Program) → IsTrue (is_program p) → (past : List Event) → NeededAlone (plan_of p) (query_of p) past }
     ensures live { (p : Program) → IsTrue (is_program p) → (past : List Event) → AllByRecursion (IsOfLive (query_of p) past) (selected (query_of p) past) }
-    ensures records { (p : Program) → IsTrue (is_program p) → (records : ℤ) (past : List Event) → let q = query_of p in FollowAlike (plan_of p) q q.clock.start records past (needed q past) × WritesAlike q q.clock.start records past (needed q past) }
+    ensures records { (p : Program) → IsTrue (is_program p) → (records : ℤ) (past : List Event) →
+        let q = query_of p in FollowAlike (plan_of p) q q.clock.start records past (needed q past) × WritesAlike q q.clock.start records past (needed q past) }
 {}
 
 /// What the accumulators of each held pane hold lies where the verifier's intervals put the fold of as many
 /// records, and has 64 bits.
 pub fn holds_in_range()
-    ensures { (p : Program) (costs : Costs) → judge p ≡ Ok costs → IsTrue (is_program p) → (past : List Event) → AllByRecursion (λ e. IsTrue (is_in_range p e.1)) (kept (query_of p) past) }
+    ensures { (p : Program) (costs : Costs) → judge p ≡ Ok costs → IsTrue (is_program p) → (past : List Event) →
+        AllByRecursion (λ e. IsTrue (is_in_range p e.1)) (kept (query_of p) past) }
 {}
 
 /// No run of a section takes more instructions than the longest path of the section has, whatever is
 /// stated: neither WHERE and UPDATE on a record that is admitted, nor FIRE on a firing.
 pub fn runs_within()
-    ensures records { (p : Program) (costs : Costs) → judge p ≡ Ok costs → IsTrue (is_program p) → (past : List Event) (key : ℕ) (time : ℤ) (values : List Value)
+    ensures records { (p : Program) (costs : Costs) → judge p ≡ Ok costs → IsTrue (is_program p) →
+        (past : List Event) (key : ℕ) (time : ℤ) (values : List Value)
         → verdict_on (query_of p) past (Record (Some key) time values) ≡ None → RecordPaths p key values }
     ensures firings { (p : Program) (costs : Costs) → judge p ≡ Ok costs → IsTrue (is_program p) → (past : List Event) (e : Event)
         → AllByRecursion (λ f. pane_cost p f ≤ longest_path p.fire) (firings (query_of p) past e) }
@@ -163,7 +182,8 @@ pub fn joins_within()
 /// Where panes discard what they showed, a column that adds up comes, over all rows of some windows, to what the records
 /// of these windows come to, once the windows were dropped. Which firings told of them, and when, is of no account.
 pub fn amounts_add_up()
-    ensures { (p : Program) → IsTrue (is_program p) → p.header.mode ≡ Discarding → (c : ℕ) (amount : Amount) → AddsAmounts (query_of p) c amount → AmountsAddUp (query_of p) c amount }
+    ensures { (p : Program) → IsTrue (is_program p) → p.header.mode ≡ Discarding → (c : ℕ) (amount : Amount) → AddsAmounts (query_of p) c amount →
+        AmountsAddUp (query_of p) c amount }
 {}
 
 /// Deliveries that come at least once pass once where each identifier is forgotten as soon as a record of its first time is
@@ -171,11 +191,13 @@ pub fn amounts_add_up()
 /// remembered for ever.
 pub fn passes_once()
     ensures alike { (p : Program) → IsTrue (is_program p) → (time_of : ℕ → ℤ) (ds : List Delivery) → AreTimed time_of ds → PassesAlike (query_of p) ds }
-    ensures rows { (p : Program) → IsTrue (is_program p) → (time_of : ℕ → ℤ) (ds : List Delivery) → AreTimed time_of ds → WritesOnce (plan_of p) (query_of p) ds }
+    ensures rows { (p : Program) → IsTrue (is_program p) → (time_of : ℕ → ℤ) (ds : List Delivery) → AreTimed time_of ds →
+        WritesOnce (plan_of p) (query_of p) ds }
 {}
 
 /// So where each record is delivered at least once and taken when it first comes, what is written of a span of time is
 /// what its records come to: each once, in whatever order they came, and however often.
 pub fn invoice()
-    ensures { (p : Program) → IsTrue (is_program p) → p.header.mode ≡ Discarding → (c : ℕ) (amount : Amount) → AddsAmounts (query_of p) c amount → Invoices (query_of p) c amount }
+    ensures { (p : Program) → IsTrue (is_program p) → p.header.mode ≡ Discarding → (c : ℕ) (amount : Amount) → AddsAmounts (query_of p) c amount →
+        Invoices (query_of p) c amount }
 {}

@@ -16,7 +16,7 @@ use Rattle.wsm_semantics.specs.Query.{Query}
 use Rattle.wsm_semantics.specs.Firings.{kind_on_record}
 use Rattle.wsm_semantics.specs.Summaries.{Plan, Pane, Fired, fired_count, fired_of, fires, fired_pane, all_fired}
 use Rattle.wsm_semantics.proofs.Tables.{find-keyed, is_sorted-keyed}
-use Rattle.wsm_panes.proofs.Sorted.{lesser}
+use Rattle.wsm_slots.proofs.Order.{lesser}
 use Rattle.wsm_firing.specs.ByRecord.{is_called, kind_at}
 use Rattle.wsm_firing.proofs.SameKinds.{Kind, Entries, none_fires}
 

@@ -11,9 +11,9 @@ use Rattle.wsm_windows.specs.Places.{place_cmp}
 use Rattle.wsm_semantics.specs.Query.{Query}
 use Rattle.wsm_semantics.specs.Firings.{kind_on_watermark}
 use Rattle.wsm_semantics.specs.Summaries.{Pane, kind_by_watermark}
-use Rattle.wsm_panes.proofs.Ended.{ends_in_order}
-use Rattle.wsm_panes.proofs.Sorted.{lesser}
-use Rattle.wsm_panes.specs.Walk.{place_due}
+use Rattle.wsm_list.proofs.Ended.{ends_in_order}
+use Rattle.wsm_slots.proofs.Order.{lesser}
+use Rattle.wsm_slots.specs.Walk.{place_due}
 use Rattle.wsm_firing.proofs.AtPlace.{first_of, second_of}
 use Rattle.wsm_firing.proofs.Walk.{rest_due}
 

@@ -13,7 +13,7 @@ use Rattle.wsm_machine.specs.declared.outcome.Outcome.TheVariants.{Done}
 use Rattle.wsm_machine.specs.Inputs.{Inputs}
 use Rattle.wsm_machine.specs.Run.{run}
 use Rattle.wsm_machine.specs.Meaning.{pane_inputs, row, plan_of, fire_steps}
-use Rattle.wsm_panes.proofs.Written.{if_mapped}
+use Rattle.wsm_slots.proofs.Written.{if_mapped}
 use Rattle.wsm_machine.proofs.RunAnswers.{row_is}
 
 -- what an option that is read holds

@@ -17,7 +17,7 @@ use Rattle.wsm_windows.specs.Places.{place_cmp, at}
 use Rattle.wsm_windows.proofs.Places.{places_total, places_exact}
 use Rattle.wsm_semantics.proofs.Lists.{filter-all}
 use Rattle.wsm_semantics.proofs.Each.{all-append}
-use Rattle.wsm_panes.proofs.Rings.{int_less}
+use Rattle.wsm_ring.proofs.Rings.{int_less}
 use Rattle.wsm_firing.specs.ByRecord.{is_among, AreInOrder}
 
 -- places behind one are none of those up to it

@@ -12,9 +12,9 @@ use Rattle.wsm_windows.specs.declared.place.Place.{Place}
 use Rattle.wsm_windows.specs.Places.{place_cmp}
 use Rattle.wsm_semantics.specs.Query.{Query}
 use Rattle.wsm_semantics.specs.Summaries.{Plan, Pane, fired_count, fired_of, fired_pane, fires, kind_by_watermark}
-use Rattle.wsm_panes.specs.Place.{is_kept}
-use Rattle.wsm_panes.specs.Walk.{first_past, place_due}
-use Rattle.wsm_panes.proofs.Ended.{ended, ended_passes, ends_in_order, past_nth}
+use Rattle.wsm_slots.specs.Place.{is_kept}
+use Rattle.wsm_slots.specs.Walk.{first_past, place_due}
+use Rattle.wsm_list.proofs.Ended.{ended, ended_passes, ends_in_order, past_nth}
 use Rattle.wsm_firing.specs.ByWatermark.{IsNextToFire}
 use Rattle.wsm_firing.proofs.SameKinds.{Entries}
 use Rattle.wsm_firing.proofs.AtPlace.{first_of, second_of}

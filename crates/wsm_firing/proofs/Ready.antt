@@ -2,7 +2,7 @@
 use Rattle.std.proofs.Common.{ap, ◌∙◌}
 use Rattle.wsm_program.specs.Program.{Program}
 use Rattle.wsm_panes.specs.Held.{Held, IsKept, entries_of}
-use Rattle.wsm_panes.specs.declared.widths.Widths.{Widths}
+use Rattle.wsm_slots.specs.declared.widths.Widths.{Widths}
 use Rattle.wsm_firing.specs.Streams.{Told, Tells}
 use Rattle.wsm_firing.specs.Operator.{AreReady}
 use Rattle.wsm_firing.proofs.StandingRows.{can_tell_on}

@@ -21,7 +21,9 @@ use Rattle.wsm_semantics.specs.Replay.{datum}
 use Rattle.wsm_semantics.specs.Retractions.{retracted, retracted_in}
 use Rattle.wsm_semantics.specs.Summaries.{Plan, Pane, entered, joined_all, linked, parted, parted_by, session_with, standing_joined, with_record, withdrawn_entering, written_by}
 use Rattle.wsm_semantics.proofs.Assigned.{both}
-use Rattle.wsm_panes.specs.Held.{first_two, has_fired, joined_panes}
+use Rattle.wsm_list.specs.Joining.{first_two}
+use Rattle.wsm_slots.specs.Panes.{has_fired}
+use Rattle.wsm_panes.specs.Held.{joined_panes}
 use Rattle.wsm_firing.specs.Retracting.{AreWithdrawn, withdrawn_pair}
 use Rattle.wsm_firing.proofs.RetractWalk.{Panes, Written}
 use Rattle.wsm_firing.proofs.RowsAfterRecord.{length_parts}

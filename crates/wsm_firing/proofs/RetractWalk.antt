@@ -15,7 +15,7 @@ use Rattle.wsm_semantics.specs.Retractions.{retracted}
 use Rattle.wsm_semantics.specs.Summaries.{Pane, fired_of, fires, kind_by_watermark, written_by, withdrawn_by_watermark}
 use Rattle.wsm_program.specs.Program.{Program}
 use Rattle.wsm_machine.specs.Meaning.{plan_of, query_of}
-use Rattle.wsm_panes.specs.Walk.{place_due}
+use Rattle.wsm_slots.specs.Walk.{place_due}
 use Rattle.wsm_firing.specs.ByWatermark.{IsNextToFire, fires_by_watermark}
 use Rattle.wsm_firing.specs.Retracting.{AreWithdrawn}
 use Rattle.wsm_firing.proofs.Behind as behind

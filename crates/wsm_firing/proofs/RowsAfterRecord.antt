@@ -23,7 +23,9 @@ use Rattle.wsm_semantics.specs.Query.{Datum}
 use Rattle.wsm_semantics.specs.Replay.{datum}
 use Rattle.wsm_semantics.specs.Kept.{is_linked}
 use Rattle.wsm_semantics.specs.Summaries.{Plan, Pane, assigned, entered, joined_all, linked, merged_session, session_with, standing_joined, standing_row, with_record}
-use Rattle.wsm_panes.specs.Held.{are_sessions, first_two, has_fired, joined_panes}
+use Rattle.wsm_panes.specs.Held.{are_sessions, joined_panes}
+use Rattle.wsm_list.specs.Joining.{first_two}
+use Rattle.wsm_slots.specs.Panes.{has_fired}
 use Rattle.wsm_relation.specs.Rows.{count_of}
 use Rattle.wsm_firing.specs.Streams.{IsToldOf, are_both_fired, rows_and, rows_with, standing_rows}
 use Rattle.wsm_firing.proofs.StreamRows.{Numbers, Rows, told_same}

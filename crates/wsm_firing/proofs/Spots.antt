@@ -4,9 +4,9 @@ use Rattle.std.specs.Prelude.{IfSome}
 use Rattle.wsm_windows.specs.declared.window.Shape.{Shape}
 use Rattle.wsm_windows.specs.declared.window.Shape.TheVariants.{Session}
 use Rattle.wsm_windows.specs.Windows.{period_of, size_of}
-use Rattle.wsm_panes.specs.declared.spot.Spot.{Spot}
+use Rattle.wsm_slots.specs.declared.spot.Spot.{Spot}
 use Rattle.wsm_panes.specs.Held.{Held, IsKept, IsSpot}
-use Rattle.wsm_panes.specs.Ring.{slot_of}
+use Rattle.wsm_ring.specs.Ring.{slot_of}
 
 pub spot_in : (h : Held) (found : Option Spot) (spot : Spot) → IfSome found (IsSpot h) → found ≡ Some spot → IsSpot h spot
 spot_in h found spot all is = subst (λ (x : Option Spot). IfSome x (IsSpot h)) is all

@@ -14,7 +14,7 @@ use Rattle.wsm_semantics.specs.Summaries.{Pane, standing_row}
 use Rattle.wsm_relation.specs.Rows.{count_of}
 use Rattle.wsm_semantics.proofs.RowBags.{once}
 use Rattle.wsm_firing.specs.Streams.{Told, IsTold, AreAlike, CanTell, CanLose, CanGain, Tells, standing_rows}
-use Rattle.wsm_panes.proofs.Sorted.{lesser}
+use Rattle.wsm_slots.proofs.Order.{lesser}
 use Rattle.wsm_firing.proofs.AtPlace.{first_of, second_of}
 use Rattle.wsm_firing.proofs.StreamRows.{Rows, told_same}
 

@@ -17,9 +17,9 @@ use Rattle.wsm_windows.proofs.Places.{places_total}
 use Rattle.wsm_semantics.specs.Query.{Query}
 use Rattle.wsm_semantics.specs.Summaries.{Plan, Pane, fired_of, fires, fired_pane, all_fired}
 use Rattle.wsm_firing.proofs.SameKinds.{Entries, none_fired}
-use Rattle.wsm_panes.proofs.Sorted.{lesser}
-use Rattle.wsm_panes.specs.Walk.{following, place_due}
-use Rattle.wsm_panes.proofs.Walk.{following_nth}
+use Rattle.wsm_slots.proofs.Order.{lesser}
+use Rattle.wsm_slots.specs.Walk.{following, place_due}
+use Rattle.wsm_list.proofs.Walk.{following_nth}
 use Rattle.wsm_firing.proofs.AtPlace.{first_of, second_of}
 
 pub rest_at : {A : Type 0} (xs : List A) (i : ℕ) (x : A) → slice_get xs i ≡ Some x → drop i xs ≡ x ∷ drop (i + 1) xs

@@ -14,7 +14,7 @@ use Rattle.wsm_semantics.specs.declared.out_row.OutRow.{OutRow}
 use Rattle.wsm_semantics.specs.Summaries.{Fired, Pane, all_fired, fired_count, fired_pane, kind_by_watermark}
 use Rattle.wsm_program.specs.Program.{Program}
 use Rattle.wsm_machine.specs.Meaning.{plan_of, query_of}
-use Rattle.wsm_panes.specs.Walk.{place_due}
+use Rattle.wsm_slots.specs.Walk.{place_due}
 use Rattle.wsm_firing.specs.declared.tally.Tally.{Tally}
 use Rattle.wsm_firing.specs.Tally.{tally_of, tally_with}
 use Rattle.wsm_firing.specs.ByWatermark.{IsNextToFire, fires_by_watermark}

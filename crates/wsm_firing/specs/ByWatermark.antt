@@ -9,7 +9,7 @@ use Rattle.wsm_windows.specs.Places.{window_of}
 use Rattle.wsm_semantics.specs.Summaries.{Pane, Fired, fires, kind_by_watermark, withdrawn_by_watermark}
 use Rattle.wsm_program.specs.Program.{Program}
 use Rattle.wsm_machine.specs.Meaning.{query_of}
-use Rattle.wsm_panes.specs.Walk.{place_due}
+use Rattle.wsm_slots.specs.Walk.{place_due}
 use Rattle.wsm_firing.specs.Firing.{CanFire}
 
 -- what fires on the turn of a watermark that rises from one mark to another

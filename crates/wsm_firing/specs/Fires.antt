@@ -16,6 +16,7 @@ use Rattle.wsm_firing.specs.declared.operator.WindowState.{WindowState}
 use Rattle.wsm_firing.specs.declared.tally.Tally.{Tally}
 use Rattle.wsm_firing.specs.Due.{fired_by}
 use Rattle.wsm_firing.specs.Firing.{CanAdd, rows_of, turn_rows}
+use Rattle.wsm_firing.specs.Operator.{AreReady}
 use Rattle.wsm_firing.specs.Streams.{Tells}
 use Rattle.wsm_firing.specs.Spots.{Holds}
 use Rattle.wsm_firing.specs.Tally.{tally_of, tally_with}
@@ -62,6 +63,11 @@ Kinds = Place → Pane (List Value) → Option PaneKind
 
 abbrev pub CanFireBy : Program → Kinds → WindowState → Tally → Type 0
 CanFireBy p kind s t = CanAdd p s.rows.room (length s.rows.written) t (fires (query_of p) kind (entries_of s.held))
+
+-- they can fire where all is ready
+pub record CanFireReady (p : Program) (kind : Kinds) (s : WindowState) (t : Tally) : Type 0 where
+  pub ready : AreReady p s.held s.streams
+  pub can : CanFireBy p kind s t
 
 abbrev pub FiresBy : Program → Kinds → WindowState → WindowState → Tally → Tally → Type 0
 FiresBy p kind old new before after =

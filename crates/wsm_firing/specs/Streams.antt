@@ -1,6 +1,6 @@
 -- The streams of the relation that stands for the panes, by what it gains and loses.
-use Rattle.std.specs.Prelude.{◌≡◌, ℕ, ◌+◌, ◌≤◌, Bool, false, not, ◌&&◌, List, [], ◌∷◌, ◌++◌, length, ℤ, pos, filter_map, Option, if◌then◌else◌}
-use Rattle.std.specs.List.{cons_option}
+use Rattle.std.specs.Prelude.{◌≡◌, ℕ, ◌+◌, ◌≤◌, ◌<◌, Bool, false, not, ◌&&◌, List, [], ◌∷◌, ◌++◌, length, ℤ, pos, filter_map, Option, if◌then◌else◌}
+use Rattle.std.specs.List.{AllByRecursion, cons_option}
 use Rattle.std.specs.FinMap.Entries.{where_key}
 use Rattle.wsm_record.specs.declared.event.Value.{Value}
 use Rattle.wsm_record.specs.declared.cell.Cell.{Cell}
@@ -9,15 +9,17 @@ use Rattle.wsm_record.specs.declared.words.Form.TheVariants as form
 use Rattle.wsm_windows.specs.declared.window.Shape.{Shape}
 use Rattle.wsm_windows.specs.declared.window.Shape.TheVariants.{Session}
 use Rattle.wsm_windows.specs.declared.place.Place.{Place}
-use Rattle.wsm_windows.specs.Places.{place_cmp}
+use Rattle.wsm_windows.specs.Places.{place_cmp, window_of}
+use Rattle.wsm_windows.specs.Windows.{IsPlaced, IsTime}
 use Rattle.wsm_semantics.specs.Query.{Datum}
 use Rattle.wsm_semantics.specs.Kept.{is_linked}
 use Rattle.wsm_semantics.specs.Relation.{sorted_rows, stream_rows}
 use Rattle.wsm_semantics.specs.Replay.{datum}
 use Rattle.wsm_semantics.specs.declared.out_row.OutRow.{OutRow}
 use Rattle.wsm_semantics.specs.Summaries.{Pane, Plan, entered, linked, standing_row}
-use Rattle.wsm_panes.specs.declared.spot.Spot.{Spot}
-use Rattle.wsm_panes.specs.Held.{Held, entries_of, has_fired}
+use Rattle.wsm_slots.specs.declared.spot.Spot.{Spot}
+use Rattle.wsm_panes.specs.Held.{Held, entries_of}
+use Rattle.wsm_slots.specs.Panes.{has_fired}
 use Rattle.wsm_firing.specs.Spots.{Holds}
 use Rattle.wsm_relation.specs.Rows.{IsInOrder}
 use Rattle.wsm_relation.specs.Delta.{IsDelta, IsChange, undone}
@@ -152,6 +154,36 @@ pub record CanTell {X : Type 0} (s : Told) (panes : List (Place × Pane X)) : Ty
 pub record AreAlike (old new : Told) : Type 0 where
   pub form : new.form ≡ old.form
   pub room : new.room ≡ old.room
+
+-- a row is lost, or gained, if there is one, and form and room stay
+pub record HasLost (old new : Told) (row : Option (List Cell)) : Type 0 where
+  pub told : Loses old new row
+  pub alike : AreAlike old new
+
+pub record HasGained (old new : Told) (row : Option (List Cell)) : Type 0 where
+  pub told : Gains old new row
+  pub alike : AreAlike old new
+
+-- that of the pane at a spot
+pub record HasLostHeld (h : Held) (spot : Spot) (old new : Told) : Type 0 where
+  pub told : LosesHeld h spot old new
+  pub alike : AreAlike old new
+
+-- what was told of some panes is told of others, and form and room stay
+pub record HasTold {X : Type 0} (old new : Told) (before after : List (Place × Pane X)) : Type 0 where
+  pub told : TellsPanes old new before after
+  pub alike : AreAlike old new
+
+-- the rows of panes that are dropped can be told
+pub record CanDrop (s : Told) (panes : List (Place × Pane (List Value))) : Type 0 where
+  pub placed : AllByRecursion (λ e. IsPlaced (window_of e.0)) panes
+  pub tells : CanTell s panes
+
+-- those of panes that a record of a key and a time joins can be
+pub record CanLoseJoined (s : Told) (h : Held) (key : ℕ) (time : ℤ) : Type 0 where
+  pub declared : key < h.keys
+  pub timely : IsTime time
+  pub tells : CanTell s (entries_of h)
 
 -- what was told of some panes is told of those that they became, as many
 pub record Tells {X : Type 0} (old new : Told) (before after : List (Place × Pane X)) : Type 0 where

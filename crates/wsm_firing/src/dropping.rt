@@ -7,7 +7,7 @@ ghost use Rattle.wsm_windows.specs.Life.{is_live};
 ghost use Rattle.wsm_windows.specs.Windows.{IsPlaced, IsSpan};
 ghost use Rattle.wsm_windows.specs.Places.{place_cmp, window_of};
 ghost use Rattle.wsm_panes.specs.Held.{IsKept, entries_of};
-ghost use Rattle.wsm_firing.specs.Streams.{AreAlike, CanTell, TellsPanes};
+ghost use Rattle.wsm_firing.specs.Streams.{AreAlike, CanDrop, CanTell, HasTold, TellsPanes};
 
 use crate::operator::WindowState;
 use crate::streams::Streams;
@@ -36,10 +36,8 @@ impl WindowState {
 
 // Tells the streams the rows of the panes of windows with an end of at most the limit.
 fn lose_expired(streams: &mut Streams, held: &HeldPanes, limit: i64)
-    requires placed { AllByRecursion (λ e. IsPlaced (window_of e.0)) (entries_of held.now) }
-    requires tells { CanTell streams.old (entries_of held.now) }
-    ensures told { TellsPanes streams.old streams.new (entries_of held.now) (where_key place_cmp (λ p. int_lt limit p.end) (entries_of held.now)) }
-    ensures alike { AreAlike streams.old streams.new }
+    requires { CanDrop streams.old (entries_of held.now) }
+    ensures { HasTold streams.old streams.new (entries_of held.now) (where_key place_cmp (λ p. int_lt limit p.end) (entries_of held.now)) }
 {
     if let Form::Panes = streams.form() {
         return;
@@ -50,10 +48,8 @@ fn lose_expired(streams: &mut Streams, held: &HeldPanes, limit: i64)
 // The same where rows are those of the relation. Its frame is large, so it isn't inlined.
 #[inline(never)]
 fn lose_due(streams: &mut Streams, held: &HeldPanes, limit: i64)
-    requires placed { AllByRecursion (λ e. IsPlaced (window_of e.0)) (entries_of held.now) }
-    requires tells { CanTell streams.old (entries_of held.now) }
-    ensures told { TellsPanes streams.old streams.new (entries_of held.now) (where_key place_cmp (λ p. int_lt limit p.end) (entries_of held.now)) }
-    ensures alike { AreAlike streams.old streams.new }
+    requires { CanDrop streams.old (entries_of held.now) }
+    ensures { HasTold streams.old streams.new (entries_of held.now) (where_key place_cmp (λ p. int_lt limit p.end) (entries_of held.now)) }
 {
     let mut next = held.first_due(limit);
     for _ in 0..held.len() {

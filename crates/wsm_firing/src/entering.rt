@@ -2,7 +2,7 @@
 
 ghost use Rattle.std.specs.Prelude.{◌≡◌, ◌<◌, ◌≤◌, ℤ, pos, List, [], length};
 ghost use Rattle.wsm_record.specs.declared.cell.Cell.{Cell};
-ghost use Rattle.wsm_windows.specs.Windows.{IsShape, IsTime};
+ghost use Rattle.wsm_windows.specs.Windows.{IsShape};
 ghost use Rattle.wsm_windows.specs.declared.window.Shape.TheVariants.{Session};
 ghost use Rattle.wsm_semantics.specs.Replay.{datum};
 ghost use Rattle.wsm_semantics.specs.Summaries.{linked};
@@ -10,7 +10,7 @@ ghost use Rattle.wsm_panes.specs.Held.{CanEnter, IsKept, entries_of, joins_sessi
 ghost use Rattle.wsm_panes.specs.Entered.{IsToldAlone};
 ghost use Rattle.wsm_firing.specs.ByRecord.{panes_entered};
 ghost use Rattle.wsm_firing.specs.Retracting.{LeavesRoom, WithdrawsJoined};
-ghost use Rattle.wsm_firing.specs.Streams.{AreAlike, CanLosePair, CanTell, IsTold, TellsEntered, TellsPanes, TellsRows, rows_and, rows_entered, standing_rows};
+ghost use Rattle.wsm_firing.specs.Streams.{AreAlike, CanLoseJoined, CanLosePair, CanTell, IsTold, TellsEntered, TellsPanes, TellsRows, rows_and, rows_entered, standing_rows};
 
 use crate::operator::{Arrival, WindowState};
 use crate::retracting::retract_joined;
@@ -64,9 +64,7 @@ impl WindowState {
 
 // Tells the streams which rows stand no more once a record is put in, whatever the plan and the mark.
 fn lose_joined(streams: &mut Streams, held: &HeldPanes, key: u16, time: i64)
-    requires declared { key < held.now.keys }
-    requires timely { IsTime time }
-    requires tells { CanTell streams.old (entries_of held.now) }
+    requires { CanLoseJoined streams.old held.now key time }
     ensures told { TellsEntered streams.old streams.new held.now key time }
     ensures alike { AreAlike streams.old streams.new }
 {
@@ -81,9 +79,7 @@ fn lose_joined(streams: &mut Streams, held: &HeldPanes, key: u16, time: i64)
 // The same where windows are sessions and rows are those of a stream. Its frame is large, so it isn't inlined.
 #[inline(never)]
 fn lose_linked(streams: &mut Streams, held: &HeldPanes, key: u16, time: i64)
-    requires declared { key < held.now.keys }
-    requires timely { IsTime time }
-    requires tells { CanTell streams.old (entries_of held.now) }
+    requires { CanLoseJoined streams.old held.now key time }
     ensures told { TellsRows streams.old streams.new (standing_rows (entries_of held.now)) (rows_entered held.now key time) }
     ensures alike { AreAlike streams.old streams.new }
     ensures few { (gap : ℤ) → held.now.shape ≡ Session gap → length (linked gap (datum 0 (pos 0) key time []) (entries_of held.now)) ≤ 2 }

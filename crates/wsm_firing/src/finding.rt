@@ -1,13 +1,12 @@
 //! Where the panes are that can fire.
 
-ghost use Rattle.std.specs.Prelude.{◌≡◌, ◌≢◌, ◌≤ℤ◌, ℕ, ℤ, map, IfSome, IsSome};
-ghost use Rattle.std.specs.FinMap.Entries.{find};
+ghost use Rattle.std.specs.Prelude.{◌≡◌, ◌≢◌, ◌≤ℤ◌, ℕ, ℤ, map, IfSome};
 ghost use Rattle.wsm_windows.specs.declared.window.Shape.TheVariants.{Session};
 ghost use Rattle.wsm_windows.specs.Life as life;
 ghost use Rattle.wsm_windows.specs.Windows.{IsTime};
-ghost use Rattle.wsm_windows.specs.Places.{at, place_cmp};
-ghost use Rattle.wsm_panes.specs.Held.{IsSpot, entries_of};
-ghost use Rattle.wsm_panes.specs.Walk.{place_found};
+ghost use Rattle.wsm_windows.specs.Places.{at};
+ghost use Rattle.wsm_panes.specs.Held.{IsHeldAt, IsSpot, entries_of};
+ghost use Rattle.wsm_slots.specs.Walk.{place_found};
 ghost use Rattle.wsm_firing.specs.ByRecord.{AreInOrder};
 ghost use Rattle.wsm_firing.specs.ByWatermark.{IsNextBehind, IsNextToFire};
 
@@ -45,8 +44,7 @@ pub fn first_to_fire(held: &HeldPanes, expired: i64, old: i64, new: i64) -> Opti
 #[inline(always)]
 pub fn next_to_fire(held: &HeldPanes, spot: Spot, expired: i64, old: i64, new: i64) -> Option<Spot>
     requires order { expired ≤ℤ new }
-    requires there { IsSome (find place_cmp spot.place (entries_of held.now)) }
-    requires spot { IsSpot held.now spot }
+    requires held { IsHeldAt held.now spot }
     ensures next { IsNextBehind expired old new (entries_of held.now) spot.place (place_found result) }
     ensures spot { IfSome result (IsSpot held.now) }
 {

@@ -1,10 +1,8 @@
 //! One firing.
 
-ghost use Rattle.std.specs.Prelude.{◌≡◌, ◌<◌, ◌≤◌, ◌++◌, IfSome, IsSome, option_map, length};
-ghost use Rattle.std.specs.FinMap.Entries.{find};
+ghost use Rattle.std.specs.Prelude.{◌≡◌, ◌<◌, ◌≤◌, ◌++◌, IfSome, option_map, length};
 ghost use Rattle.wsm_record.specs.declared.limits.TheConstants.{MAX_COLUMNS};
-ghost use Rattle.wsm_windows.specs.Places.{place_cmp};
-ghost use Rattle.wsm_panes.specs.Held.{IsSpot, entries_of};
+ghost use Rattle.wsm_panes.specs.Held.{IsHeldAt};
 ghost use Rattle.wsm_firing.specs.Due.{row_written};
 ghost use Rattle.wsm_firing.specs.Operator.{AreReady};
 ghost use Rattle.wsm_firing.specs.Fires.{CanFireDue, FiresDue, HasRun};
@@ -33,8 +31,7 @@ impl WindowState {
     #[inline(always)]
     pub(crate) fn fire(&mut self, verified: &Verified, tally: &mut Tally, due: Due, ran: Ran<'_>)
         requires ready { AreReady verified.now self.old.held self.old.streams }
-        requires held { IsSome (find place_cmp due.spot.place (entries_of self.old.held)) }
-        requires spot { IsSpot self.old.held due.spot }
+        requires held { IsHeldAt self.old.held due.spot }
         requires can { CanFireDue verified.now due self.old tally.old }
         requires run { HasRun verified.now self.old.held due (option_map (λ cells. cells.now) ran.row) ran.steps }
         requires as_wide { IfSome ran.row (λ cells. length cells.now ≡ length verified.now.header.columns) }

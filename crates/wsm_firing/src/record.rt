@@ -1,14 +1,14 @@
 //! Firings on the turn of a record.
 
-ghost use Rattle.std.specs.Prelude.{IsSome, [], ◌∷◌, map};
+ghost use Rattle.std.specs.Prelude.{[], ◌∷◌, map};
 ghost use Rattle.std.specs.FinMap.Entries.{find};
-ghost use Rattle.wsm_windows.specs.Places.{at, place_cmp};
+ghost use Rattle.wsm_windows.specs.Places.{at};
 ghost use Rattle.wsm_machine.specs.Meaning.{query_of};
-ghost use Rattle.wsm_panes.specs.Held.{IsSpot, entries_of};
+ghost use Rattle.wsm_panes.specs.Held.{IsHeldAt, entries_of};
 ghost use Rattle.wsm_firing.specs.Tally.{nothing};
 ghost use Rattle.wsm_firing.specs.Operator.{AreReady};
 ghost use Rattle.wsm_firing.specs.ByRecord.{AreInOrder, CanFireEntered, HasEntered, kind_at, kind_entered};
-ghost use Rattle.wsm_firing.specs.Fires.{CanFireBy, CanFireDue, FiresBy, FiresDue, FiresOnTurn};
+ghost use Rattle.wsm_firing.specs.Fires.{CanFireDue, FiresBy, FiresDue, FiresOnTurn, CanFireReady};
 
 use crate::finding::windows_of_record;
 use crate::fire::Due;
@@ -56,9 +56,8 @@ impl WindowOperator {
         arrival: Arrival,
         alone: Option<Window>,
     ) -> Tally
-        requires ready { AreReady verified.now self.old.state.held self.old.state.streams }
         requires entered { HasEntered verified.now arrival.mark arrival.key arrival.time alone (entries_of self.old.state.held) }
-        requires can { CanFireBy verified.now (kind_entered verified.now arrival) self.old.state nothing }
+        requires can { CanFireReady verified.now (kind_entered verified.now arrival) self.old.state nothing }
         ensures { FiresBy verified.now (kind_entered verified.now arrival) self.old.state self.new.state nothing result }
     {
         match alone {
@@ -77,9 +76,8 @@ impl WindowOperator {
 
     // Fires the panes at some windows of a key.
     fn fire_each(&mut self, verified: &Verified, mark: i64, key: u16, windows: Windows) -> Tally
-        requires ready { AreReady verified.now self.old.state.held self.old.state.streams }
         requires order { AreInOrder (map (at key) windows) }
-        requires can { CanFireBy verified.now (kind_at (query_of verified.now) mark (map (at key) windows)) self.old.state nothing }
+        requires can { CanFireReady verified.now (kind_at (query_of verified.now) mark (map (at key) windows)) self.old.state nothing }
         ensures { FiresBy verified.now (kind_at (query_of verified.now) mark (map (at key) windows)) self.old.state self.new.state nothing result }
     {
         let mut tally = Tally::none();
@@ -93,8 +91,7 @@ impl WindowOperator {
     // Fires the pane at a place, where one is and its trigger calls for it.
     #[inline(always)]
     fn fire_at(&mut self, verified: &Verified, tally: &mut Tally, mark: i64, place: Place)
-        requires ready { AreReady verified.now self.old.state.held self.old.state.streams }
-        requires can { CanFireBy verified.now (kind_at (query_of verified.now) mark (place ∷ [])) self.old.state tally.old }
+        requires { CanFireReady verified.now (kind_at (query_of verified.now) mark (place ∷ [])) self.old.state tally.old }
         ensures { FiresBy verified.now (kind_at (query_of verified.now) mark (place ∷ [])) self.old.state self.new.state tally.old tally.new }
     {
         if is_called(verified, &self.state.held, mark, place) {
@@ -105,8 +102,7 @@ impl WindowOperator {
     // The same of a pane that is called for. Most records fire none, so it isn't inlined.
     #[inline(never)]
     fn fire_called(&mut self, verified: &Verified, tally: &mut Tally, mark: i64, place: Place)
-        requires ready { AreReady verified.now self.old.state.held self.old.state.streams }
-        requires can { CanFireBy verified.now (kind_at (query_of verified.now) mark (place ∷ [])) self.old.state tally.old }
+        requires { CanFireReady verified.now (kind_at (query_of verified.now) mark (place ∷ [])) self.old.state tally.old }
         ensures { FiresBy verified.now (kind_at (query_of verified.now) mark (place ∷ [])) self.old.state self.new.state tally.old tally.new }
     {
         let Some(spot) = self.state.held.find(place) else {
@@ -121,8 +117,7 @@ impl WindowOperator {
     // Fires a pane that is held.
     fn fire_held(&mut self, verified: &Verified, tally: &mut Tally, due: Due)
         requires ready { AreReady verified.now self.old.state.held self.old.state.streams }
-        requires held { IsSome (find place_cmp due.spot.place (entries_of self.old.state.held)) }
-        requires spot { IsSpot self.old.state.held due.spot }
+        requires held { IsHeldAt self.old.state.held due.spot }
         requires can { CanFireDue verified.now due self.old.state tally.old }
         ensures { FiresDue verified.now due self.old.state self.new.state tally.old tally.new }
     {

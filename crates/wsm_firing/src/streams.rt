@@ -1,12 +1,10 @@
 //! The streams of the relation.
 
-ghost use Rattle.std.specs.Prelude.{◌≡◌, ◌≤◌, [], IsSome, Some, length, option_map, IfOk, IfSome};
-ghost use Rattle.std.specs.FinMap.Entries.{find};
+ghost use Rattle.std.specs.Prelude.{◌≡◌, ◌≤◌, [], Some, length, option_map, IfOk, IfSome};
 ghost use Rattle.wsm_record.specs.declared.limits.TheConstants.{MAX_COLUMNS};
-ghost use Rattle.wsm_windows.specs.Places.{place_cmp};
 ghost use Rattle.wsm_semantics.specs.Summaries.{standing_row};
-ghost use Rattle.wsm_panes.specs.Held.{IsSpot, entries_of};
-ghost use Rattle.wsm_firing.specs.Streams.{Advances, AreAlike, CanAdvance, CanGain, CanLose, CanLoseHeld, Gains, HasRoomFor, Loses, LosesHeld, WritesAt};
+ghost use Rattle.wsm_panes.specs.Held.{IsHeldAt};
+ghost use Rattle.wsm_firing.specs.Streams.{Advances, AreAlike, CanAdvance, CanGain, CanLose, CanLoseHeld, Gains, HasGained, HasLost, HasLostHeld, HasRoomFor, Loses, WritesAt};
 ghost use Rattle.wsm_firing.specs.StreamsKept.{numbers_after, room_of};
 
 use crate::turn_rows::TurnRows;
@@ -83,8 +81,7 @@ impl Streams {
     #[inline(always)]
     pub(crate) fn lose(&mut self, pane: &PaneView<'_>)
         requires { CanLose self.old (standing_row pane.now.stands) }
-        ensures told { Loses self.old self.new (standing_row pane.now.stands) }
-        ensures alike { AreAlike self.old self.new }
+        ensures { HasLost self.old self.new (standing_row pane.now.stands) }
     {
         if let Kept::Nothing = &self.kept {
             return;
@@ -95,11 +92,9 @@ impl Streams {
     /// The same of a pane that is held, which is read only where rows are those of the relation.
     #[inline(always)]
     pub(crate) fn lose_held(&mut self, held: &HeldPanes, spot: Spot)
-        requires there { IsSome (find place_cmp spot.place (entries_of held.now)) }
-        requires spot { IsSpot held.now spot }
+        requires held { IsHeldAt held.now spot }
         requires can { CanLoseHeld held.now spot self.old }
-        ensures told { LosesHeld held.now spot self.old self.new }
-        ensures alike { AreAlike self.old self.new }
+        ensures { HasLostHeld held.now spot self.old self.new }
     {
         if let Kept::Nothing = &self.kept {
             return;
@@ -112,11 +107,9 @@ impl Streams {
     // The same, where rows are those of the relation.
     #[inline(never)]
     fn lose_at(&mut self, held: &HeldPanes, spot: Spot)
-        requires there { IsSome (find place_cmp spot.place (entries_of held.now)) }
-        requires spot { IsSpot held.now spot }
+        requires held { IsHeldAt held.now spot }
         requires can { CanLoseHeld held.now spot self.old }
-        ensures told { LosesHeld held.now spot self.old self.new }
-        ensures alike { AreAlike self.old self.new }
+        ensures { HasLostHeld held.now spot self.old self.new }
     {
         self.lose_standing(&held.pane(spot));
     }
@@ -125,8 +118,7 @@ impl Streams {
     #[inline(always)]
     fn lose_standing(&mut self, pane: &PaneView<'_>)
         requires { CanLose self.old (standing_row pane.now.stands) }
-        ensures told { Loses self.old self.new (standing_row pane.now.stands) }
-        ensures alike { AreAlike self.old self.new }
+        ensures { HasLost self.old self.new (standing_row pane.now.stands) }
     {
         let mut row = Columns::new();
         if pane.read_row(&mut row) {
@@ -139,8 +131,7 @@ impl Streams {
     pub(crate) fn gain(&mut self, row: Option<&[Cell]>)
         requires few { IfSome row (λ cells. length cells.now ≤ MAX_COLUMNS) }
         requires can { CanGain self.old (option_map (λ cells. cells.now) row) }
-        ensures told { Gains self.old self.new (option_map (λ cells. cells.now) row.entry) }
-        ensures alike { AreAlike self.old self.new }
+        ensures { HasGained self.old self.new (option_map (λ cells. cells.now) row.entry) }
     {
         if let Kept::Nothing = &self.kept {
             return;
@@ -153,8 +144,7 @@ impl Streams {
     fn gain_standing(&mut self, row: Option<&[Cell]>)
         requires few { IfSome row (λ cells. length cells.now ≤ MAX_COLUMNS) }
         requires can { CanGain self.old (option_map (λ cells. cells.now) row) }
-        ensures told { Gains self.old self.new (option_map (λ cells. cells.now) row.entry) }
-        ensures alike { AreAlike self.old self.new }
+        ensures { HasGained self.old self.new (option_map (λ cells. cells.now) row.entry) }
     {
         if let Some(cells) = row {
             self.gain_row(&Columns::of(cells));

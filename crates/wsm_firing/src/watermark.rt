@@ -10,7 +10,7 @@ ghost use Rattle.wsm_panes.specs.Held.{entries_of};
 ghost use Rattle.wsm_firing.specs.Tally.{nothing};
 ghost use Rattle.wsm_firing.specs.Operator.{AreReady};
 ghost use Rattle.wsm_firing.specs.ByWatermark.{CanFireByWatermark};
-ghost use Rattle.wsm_firing.specs.Fires.{CanFireBy, FiresBy, FiresOnTurn};
+ghost use Rattle.wsm_firing.specs.Fires.{CanFireReady, FiresBy, FiresOnTurn};
 
 use crate::finding::{first_to_fire, next_to_fire};
 use crate::fire::Due;
@@ -39,9 +39,8 @@ impl WindowOperator {
     // Fires the panes that a watermark comes to. Their rows are written behind those that are there.
     #[inline(never)]
     fn fire_due(&mut self, verified: &Verified, old: i64, new: i64) -> Tally
-        requires ready { AreReady verified.now self.old.state.held self.old.state.streams }
         requires placed { AllByRecursion (λ e. IsPlaced (window_of e.0)) (entries_of self.old.state.held) }
-        requires can { CanFireBy verified.now (kind_by_watermark (query_of verified.now) old new) self.old.state nothing }
+        requires can { CanFireReady verified.now (kind_by_watermark (query_of verified.now) old new) self.old.state nothing }
         ensures { FiresBy verified.now (kind_by_watermark (query_of verified.now) old new) self.old.state self.new.state nothing result }
     {
         let header = verified.program().header();

@@ -71,7 +71,8 @@ impl Folded {
         requires types { IsTrue (are_of_kinds kinds.now other.now) }
         requires sums { SumsFit kinds.now self.old other.now }
         ensures joined { self.new ≡ joins kinds.now self.old other.now }
-        ensures bag { (xs ys : List (List OneValue)) → folds_of kinds.now xs ≡ Some self.old → folds_of kinds.now ys ≡ Some other.now → folds_of kinds.now (xs ++ ys) ≡ Some self.new }
+        ensures bag { (xs ys : List (List OneValue)) → folds_of kinds.now xs ≡ Some self.old → folds_of kinds.now ys ≡ Some other.now →
+            folds_of kinds.now (xs ++ ys) ≡ Some self.new }
     {
         self.fold(kinds, other.values());
     }

@@ -21,7 +21,8 @@ ghost use Rattle.wsm_machine.specs.Run.{run};
 pub fn runs_end()
     ensures done { (p : Program) (costs : Costs) (id : SectionId) (inputs : Inputs) → judge p ≡ Ok costs → IsTrue (is_program p) → IsTrue (in_range p id inputs)
         → (run p id inputs).outcome ≡ Done }
-    ensures steps { (p : Program) (costs : Costs) (id : SectionId) (inputs : Inputs) → judge p ≡ Ok costs → IsTrue (is_program p) → IsTrue (in_range p id inputs)
+    ensures steps { (p : Program) (costs : Costs) (id : SectionId) (inputs : Inputs) → judge p ≡ Ok costs → IsTrue (is_program p) →
+        IsTrue (in_range p id inputs)
         → (run p id inputs).steps ≤ longest_path (section p id) }
 {}
 

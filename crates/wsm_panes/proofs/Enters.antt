@@ -1,25 +1,20 @@
 -- What it takes to put a record in, for the table and for the sessions of its key.
 use Rattle.std.proofs.Common.{pos, ◌≡◌, ◌≢◌, ◌<◌, ◌≤◌, ◌+◌, ◌⊎◌, ℕ, zero, suc, Bool, true, false, cond, List, [], ◌∷◌, ◌++◌, map, length, get_or, ℤ, Option, Some, None, IfSome, refl, sym, ap, subst, ◌∙◌, inl, inr, arith}
-use Rattle.std.proofs.lemmas.Bool.{cases_Bool, true≢false, and_parts}
+use Rattle.std.proofs.lemmas.Bool.{cases_Bool}
 use Rattle.std.proofs.lemmas.Bool.Decides.{nat_tests}
 use Rattle.std.proofs.lemmas.Option.{slice_get-get_or}
 use Rattle.std.specs.Prelude.{filter, IsTrue, nat_eq, slice_get, slice_set}
-use Rattle.std.specs.Option.{is_some}
 use Rattle.std.specs.Ordering.{is_eq}
-use Rattle.std.specs.declared.cmp.Ordering.{Ordering}
-use Rattle.std.specs.declared.cmp.Ordering.TheVariants.{Less, Equal, Greater}
 use Rattle.std.specs.List.{AllByRecursion}
-use Rattle.std.specs.FinMap.Entries.{put, find, by_order, is_sorted, length-put}
+use Rattle.std.specs.FinMap.Entries.{find}
 use Rattle.wsm_record.specs.declared.event.Value.{Value}
 use Rattle.wsm_record.specs.declared.words.Kind.{Kind}
-use Rattle.wsm_windows.specs.declared.window.Window.{Window}
 use Rattle.wsm_windows.specs.declared.window.Shape.{Shape}
 use Rattle.wsm_windows.specs.declared.window.Shape.TheVariants.{Fixed, Sliding, Session}
 use Rattle.wsm_windows.specs.Windows.{period_of, size_of, windows_of, windows_of_shape}
 use Rattle.wsm_windows.specs.Life.{live_windows_of}
 use Rattle.wsm_windows.specs.declared.place.Place.{Place}
 use Rattle.wsm_windows.specs.Places.{place_cmp, at, window_of}
-use Rattle.wsm_windows.proofs.Places.{places_total}
 use Rattle.wsm_fold.specs.Fold.{are_of_kinds, joins}
 use Rattle.wsm_fold.specs.Accumulators.{SumsFit}
 use Rattle.wsm_fold.proofs.Rows.{length-are_of_kinds, are_of_kinds-joins}
@@ -27,24 +22,18 @@ use Rattle.wsm_semantics.specs.Query.{Datum}
 use Rattle.wsm_semantics.specs.Kept.{is_linked}
 use Rattle.wsm_semantics.specs.Replay.{datum}
 use Rattle.wsm_semantics.specs.Sessions.{ends_after}
-use Rattle.wsm_semantics.specs.Summaries.{Plan, Pane, assigned, entered, joined, joined_folds, linked, merged_session, with_record}
+use Rattle.wsm_semantics.specs.Summaries.{Plan, Pane, assigned, entered, joined, joined_folds, linked, merged_session}
 use Rattle.wsm_semantics.proofs.Lists.{filter-all}
 use Rattle.wsm_semantics.proofs.Each.{all-any, filter_swap, filter-map}
 use Rattle.wsm_sessions.specs.Live.{Live, times_left}
 use Rattle.wsm_semantics.proofs.ManyKeys.{length-filter}
-use Rattle.wsm_panes.specs.Held.{CanEnter, CanEnterWindows, CanJoin, CanJoinAll, CanJoinFolds, CanRecord, CanTake, Held, IsRoomy, entries_of, joins_sessions, ring_of, room_of, session_entered, taking, windows_entered, windows_of_key, with_one_more}
-use Rattle.wsm_panes.specs.Ring.{LieInRing}
+use Rattle.wsm_panes.specs.Held.{CanEnter, Held, IsRoomy, entries_of, joins_sessions, ring_of, room_of, session_entered, windows_entered}
+use Rattle.wsm_ring.specs.Entering.{CanEnterWindows}
+use Rattle.wsm_slots.specs.Panes.{CanJoin, CanJoinFolds, CanRecord, CanTake, taking, windows_of_key}
+use Rattle.wsm_list.specs.Joining.{CanJoinAll}
+use Rattle.wsm_ring.specs.Ring.{LieInRing}
 use Rattle.wsm_panes.specs.OfKeys.{AreDropped, AreOfKeys, IsOfKey}
-use Rattle.wsm_panes.specs.Place.{is_kept}
-use Rattle.wsm_panes.proofs.Tables.{to_T}
-
--- which record it is doesn't matter, beside the values
-pub any_datum : (kinds : List Kind) (values : List Value) (d : Datum) (pane : Option (Pane (List Value))) → with_one_more kinds values pane ≡ with_record (taking kinds values) d pane
-any_datum kinds values d None = refl
-any_datum kinds values d (Some h) = by h.folded refl where
-  by : (o : Option (List Value)) → h.folded ≡ o → with_one_more kinds values (Some h) ≡ with_record (taking kinds values) d (Some h)
-  by None is = rw is refl
-  by (Some xs) is = rw is refl
+use Rattle.wsm_slots.specs.Place.{is_kept}
 
 -- where as many pass a test as there are, all do
 pub all_left : {X : Type 0} (p : X → Bool) (xs : List X) → length xs ≤ length (filter p xs) → filter p xs ≡ xs
@@ -190,23 +179,6 @@ keys_alike gap keys live es fs ss all same = record {
   count = all.count;
   each = λ k s read. let old = all.each k s read in record { same_gap = old.same_gap; room = old.room; windows = same k ∙ old.windows; times = old.times };
 }
-
-abbrev windows_chosen : {X : Type 0} → ℕ → Bool → Place × X → List (Place × X) → List Window
-windows_chosen k b f fs = map (λ e. window_of e.0) (cond b (f ∷ filter (λ e. nat_eq k e.0.key) fs) (filter (λ e. nat_eq k e.0.key) fs))
-
--- a pane put where one is leaves the windows of each key
-pub windows_replaced : {X : Type 0} (k : ℕ) (p : Place) (v : X) (es : List (Place × X)) → is_sorted place_cmp es ≡ true → is_some (find place_cmp p es) ≡ true → windows_of_key k (put place_cmp p v es) ≡ windows_of_key k es
-windows_replaced k p v [] sorted there = absurd (true≢false (sym there))
-windows_replaced {X = X} k p v (e ∷ es) sorted there = by (place_cmp p e.0) refl (length-put place_cmp places_total p v (e ∷ es) (to_T _ sorted) ∙ ap (λ b. cond b (suc (length es)) (suc (length es) + 1)) there) there (windows_replaced k p v es (and_parts _ _ sorted).1) where
-  by : (o : Ordering) → place_cmp p e.0 ≡ o → length (by_order o ((p, v) ∷ e ∷ es) ((e.0, v) ∷ es) (e ∷ put place_cmp p v es)) ≡ suc (length es) → is_some (cond (is_eq o) (Some e.1) (find place_cmp p es)) ≡ true
-      → (is_some (find place_cmp p es) ≡ true → windows_of_key k (put place_cmp p v es) ≡ windows_of_key k es)
-      → windows_of_key k (by_order o ((p, v) ∷ e ∷ es) ((e.0, v) ∷ es) (e ∷ put place_cmp p v es)) ≡ windows_of_key k (e ∷ es)
-  by Less is long found rest = absurd (omega (arith, long))
-  by Equal is long found rest = elim (nat_eq k e.0.key) as (λ b. windows_chosen k b ((e.0, v)) es ≡ windows_chosen k b e es) [ true ↦ refl | false ↦ refl ]
-  by Greater is long found rest = elim (nat_eq k e.0.key) as (λ b. windows_chosen k b e (put place_cmp p v es) ≡ windows_chosen k b e es) [
-    | true ↦ ap (λ (ws : List Window). window_of e.0 ∷ ws) (rest found)
-    | false ↦ rest found
-  ]
 
 get_push : (ss : List Live) (new : Live) (k : ℕ) (s : Live) → slice_get (ss ++ new ∷ []) k ≡ Some s → (slice_get ss k ≡ Some s) ⊎ (new ≡ s)
 get_push [] new zero s h = inr (cc)

@@ -12,10 +12,10 @@ use Rattle.wsm_sessions.specs.Live.{Live}
 use Rattle.wsm_panes.specs.declared.held.HeldPanes.TheInside.{Inside}
 use Rattle.wsm_panes.specs.declared.held.Tables.{Tables}
 use Rattle.wsm_panes.specs.declared.held.Tables.TheVariants.{Sessions, Grid}
-use Rattle.wsm_panes.specs.declared.widths.Widths.{Widths}
+use Rattle.wsm_slots.specs.declared.widths.Widths.{Widths}
 use Rattle.wsm_panes.specs.OfKeys.{AreOfKeys}
-use Rattle.wsm_panes.specs.RingState.{RingState}
-use Rattle.wsm_panes.specs.Table.{Table}
+use Rattle.wsm_ring.specs.RingState.{RingState}
+use Rattle.wsm_list.specs.Table.{Table}
 
 abbrev pub panes_in : Tables → map.FinMap place_cmp (Pane (List Value))
 panes_in (Sessions list keys) = list.panes

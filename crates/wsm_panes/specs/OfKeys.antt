@@ -5,7 +5,7 @@ use Rattle.wsm_windows.specs.declared.place.Place.{Place}
 use Rattle.wsm_semantics.specs.Sessions.{ends_after}
 use Rattle.wsm_semantics.specs.Summaries.{Pane}
 use Rattle.wsm_sessions.specs.Live.{Live, Fits, times_left}
-use Rattle.wsm_panes.specs.Held.{windows_of_key}
+use Rattle.wsm_slots.specs.Panes.{windows_of_key}
 
 -- the windows of a key's panes are its sessions
 pub record IsOfKey (gap : ℤ) (live k : ℕ) (es : List (Place × Pane (List Value))) (s : Live) : Type 0 where

@@ -1,38 +1,33 @@
 //! The panes that are held.
 
-ghost use Rattle.std.specs.Prelude.{◌≡◌, ◌*◌, ◌<◌, ◌≤◌, ◌≤ℤ◌, ℤ, pos, [], length, IfOk, IfSome, IsSome, Some, int_lt, option_map, slice_get};
+ghost use Rattle.std.specs.Prelude.{◌≡◌, ◌*◌, ◌<◌, ◌≤◌, ◌≤ℤ◌, ℤ, pos, [], length, IfOk, IfSome, Some, int_lt, option_map, slice_get};
 ghost use Rattle.std.specs.Box.{boxed_slice_items};
 ghost use Rattle.std.specs.FinMap as map;
-ghost use Rattle.std.specs.FinMap.Entries.{find, put, where_key};
+ghost use Rattle.std.specs.FinMap.Entries.{find, where_key};
 ghost use Rattle.wsm_windows.specs.Windows.{IsShape, IsTime, greatest_span};
 ghost use Rattle.wsm_windows.specs.declared.window.Shape.TheVariants.{Session};
 ghost use Rattle.wsm_semantics.specs.Replay.{datum};
 ghost use Rattle.wsm_semantics.specs.Summaries.{linked};
 ghost use Rattle.wsm_record.specs.Modes.{retracts};
 ghost use Rattle.wsm_windows.specs.Places.{place_cmp};
-ghost use Rattle.wsm_panes.specs.Held.{CanEnter, IsKept, IsSpot, are_sessions, entries_of, joined_panes, joins_sessions, session_entered, windows_entered, with_entered, FiresAmong};
+ghost use Rattle.wsm_list.specs.Recorded.{IsAsRoomy};
+ghost use Rattle.wsm_panes.specs.Held.{CanEnter, CanOpen, IsHeldAt, IsKept, IsSpot, are_sessions, entries_of, joined_panes, joins_sessions, session_entered, windows_entered, with_entered, FiresAmong};
 ghost use Rattle.wsm_panes.specs.Entered.{IsToldAlone, unshown_at};
 ghost use Rattle.wsm_panes.specs.HeldState.{AreTables, panes_in, widths_in};
-ghost use Rattle.wsm_panes.specs.Ring.{IsRing};
+ghost use Rattle.wsm_ring.specs.Ring.{IsRing};
 ghost use Rattle.wsm_panes.specs.OfKeys.{AreOfKeys, AreDropped, StayOfKeys};
-ghost use Rattle.wsm_panes.specs.Place.{is_kept};
-ghost use Rattle.wsm_panes.specs.Walk.{first_past, following, place_due, place_found};
+ghost use Rattle.wsm_slots.specs.Place.{is_kept};
+ghost use Rattle.wsm_slots.specs.Walk.{first_past, following, place_due, place_found};
 
-use crate::entering::enter_windows;
-use crate::joining::{enter_session, linked_pair};
-use crate::list::ListTable;
-use crate::ring::Ring;
-use crate::ring_table::RingTable;
-use crate::spot::{Spot, rebuilt_place, rebuilt_window};
-use crate::table::PaneTable;
-use crate::view::PaneView;
-use crate::widths::Widths;
 use std::alloc::{AllocError, Global};
 use std::boxed::BoxedSlice;
 use std::marker::Model;
+use wsm_list::{ListTable, enter_session, linked_pair};
 use wsm_record::limits::{MAX_ACCUMULATORS, MAX_COLUMNS, MAX_PANES};
 use wsm_record::{Cell, Kind, Mode, Value};
+use wsm_ring::{Ring, RingTable, enter_windows};
 use wsm_sessions::Sessions;
+use wsm_slots::{PaneTable, PaneView, Spot, Widths, rebuilt_place, rebuilt_window};
 use wsm_windows::{Place, Shape, Window, live_past};
 
 /// What putting a record in came to.
@@ -71,7 +66,7 @@ impl Model for HeldPanes {
     ghost use Rattle.std.specs.Coded.{codes};
     ghost use Rattle.wsm_panes.specs.Held.{Held, coded_held};
     ghost use Rattle.wsm_panes.specs.HeldState.{panes_in, widths_in};
-    ghost use Rattle.wsm_panes.specs.contracts.pane.Pane as one_pane;
+    ghost use Rattle.wsm_slots.specs.contracts.pane.Pane as one_pane;
     ghost use Rattle.wsm_windows.specs.contracts.window.Shape as one_shape;
 
     ghost Value = { Held };
@@ -99,10 +94,7 @@ impl HeldPanes {
         live: usize,
         widths: Widths,
     ) -> Result<HeldPanes, AllocError>
-        requires shape { IsShape shape }
-        requires room { keys * live ≤ MAX_PANES }
-        requires accumulators { widths.accumulators ≤ MAX_ACCUMULATORS }
-        requires columns { widths.columns ≤ MAX_COLUMNS }
+        requires { CanOpen shape keys live widths }
         ensures { IfOk result (λ h. h ≡ record { keys = keys; shape = shape; live = live; widths = widths; panes = map.empty }) }
     {
         Ok(HeldPanes {
@@ -250,8 +242,7 @@ impl HeldPanes {
     /// Where the pane behind one is, in the order of the places, if its window ends by a limit.
     #[inline(always)]
     pub fn next_due(&self, spot: Spot, limit: i64) -> Option<Spot>
-        requires there { IsSome (find place_cmp spot.place (entries_of self.now)) }
-        requires spot { IsSpot self.now spot }
+        requires { IsHeldAt self.now spot }
         ensures place { place_found result ≡ place_due limit (following spot.place (entries_of self.now)) }
         ensures spot { IfSome result (IsSpot self.now) }
     {
@@ -264,8 +255,7 @@ impl HeldPanes {
     /// The pane at a spot.
     #[inline(always)]
     pub fn pane(&self, spot: Spot) -> PaneView<'_>
-        requires there { IsSome (find place_cmp spot.place (entries_of self.now)) }
-        requires spot { IsSpot self.now spot }
+        requires { IsHeldAt self.now spot }
         ensures { find place_cmp spot.place (entries_of self.now) ≡ Some result }
     {
         match &self.tables {
@@ -278,8 +268,7 @@ impl HeldPanes {
     /// stands. Windows are kept exactly where the mode retracts.
     #[inline(always)]
     pub fn fire_at(&mut self, spot: Spot, mode: Mode, row: Option<&[Cell]>)
-        requires there { IsSome (find place_cmp spot.place (entries_of self.old)) }
-        requires spot { IsSpot self.old spot }
+        requires held { IsHeldAt self.old spot }
         requires wide { IfSome row (λ cells. length cells.now ≡ self.old.widths.columns) }
         requires windows { self.old.widths.windows ≡ retracts mode }
         ensures panes { FiresAmong mode spot.place (option_map (λ cells. cells.now) row.entry) (entries_of self.old) (entries_of self.new) }
@@ -311,10 +300,7 @@ fn open_tables(
     live: usize,
     widths: Widths,
 ) -> Result<Tables, AllocError>
-    requires shape { IsShape shape }
-    requires room { keys * live ≤ MAX_PANES }
-    requires accumulators { widths.accumulators ≤ MAX_ACCUMULATORS }
-    requires columns { widths.columns ≤ MAX_COLUMNS }
+    requires { CanOpen shape keys live widths }
     ensures tables { IfOk result (AreTables shape keys live) }
     ensures empty { IfOk result (λ t. panes_in t ≡ map.empty) }
     ensures widths { IfOk result (λ t. widths_in t ≡ widths) }
@@ -385,8 +371,7 @@ fn noted(sessions: &[Sessions], key: u16) -> usize {
 // Drops the panes of sessions that end by a limit, and those sessions, if there are any.
 fn drop_from(list: &mut ListTable, sessions: &mut BoxedSlice<Sessions>, limit: i64)
     ensures panes { list.new.panes ≡ map.retain_keys list.old.panes (is_kept limit) }
-    ensures room { list.new.room ≡ list.old.room }
-    ensures widths { list.new.widths ≡ list.old.widths }
+    ensures keeps { IsAsRoomy list.old list.new }
     ensures sessions { StayOfKeys (map.entries list.old.panes) (boxed_slice_items sessions.old) (map.entries list.new.panes) (boxed_slice_items sessions.new) }
 {
     let count = list.len();

@@ -32,31 +32,8 @@
 #![tactic(auto)]
 
 pub use held::{Entered, HeldPanes};
-pub use list::ListTable;
-pub use pane::Pane;
-pub use recording::TakesRecords;
-pub use ring::Ring;
-pub use ring_table::RingTable;
-pub use spot::Spot;
-pub use table::PaneTable;
-pub use view::PaneView;
-pub use widths::Widths;
+pub use wsm_list::ListTable;
+pub use wsm_ring::{Ring, RingTable};
+pub use wsm_slots::{Pane, PaneTable, PaneView, Spot, TakesRecords, Widths};
 
-mod entering;
-mod head;
 mod held;
-mod joining;
-mod layout;
-mod list;
-mod pane;
-mod recording;
-mod ring;
-mod ring_table;
-mod row_words;
-mod search;
-mod slot_row;
-mod slots;
-mod spot;
-mod table;
-mod view;
-mod widths;

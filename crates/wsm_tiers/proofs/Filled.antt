@@ -23,7 +23,7 @@ module _ {T Z : Type 0} where
   pub record Lacks (n k : ℕ) (xs : List (VecDeque T Z)) : Type 0 where
     pub each : (j : ℕ) (d : VecDeque T Z) → j < length xs → (j ≡ k → ⊥) → deque_len (get_or xs j d) ≡ min TIER (n - TIER * j)
     pub short : (d : VecDeque T Z) → deque_len (get_or xs k d) + 1 ≡ min TIER (n - TIER * k)
-    pub wide : (j : ℕ) (d : VecDeque T Z) → j < length xs → TIER ≤ deque_capacity (get_or xs j d)
+    pub wide : (j : ℕ) (d : VecDeque T Z) → j < length xs → deque_capacity (get_or xs j d) ≡ TIER
     pub within : n ≤ TIER * length xs
 
   module _ (n : ℕ) (xs : List (VecDeque T Z)) (h : AreFilled n xs) where
@@ -32,7 +32,7 @@ module _ {T Z : Type 0} where
     full_before k fits some j d less = let is = h.each j d (omega (arith, less, fits)) in omega (arith, len_of (get_or xs j d), is, less, some)
 
     -- a tier is another that is as long
-    pub filled_same : (k : ℕ) (y d : VecDeque T Z) → k < length xs → deque_len y ≡ deque_len (get_or xs k d) → deque_capacity (get_or xs k d) ≤ deque_capacity y → AreFilled n (set xs k y)
+    pub filled_same : (k : ℕ) (y d : VecDeque T Z) → k < length xs → deque_len y ≡ deque_len (get_or xs k d) → deque_capacity y ≡ deque_capacity (get_or xs k d) → AreFilled n (set xs k y)
     filled_same k y d fits same wide = record {
       each = λ j e inside. elim (cases_eq j k) [
         | inl is ↦ rw is (let at = get_or-set_same xs k y e fits in rw at (same ∙ h.each k d fits))

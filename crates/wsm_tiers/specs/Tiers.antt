@@ -10,8 +10,8 @@ module _ {T Z : Type 0} where
   abbrev pub joined : List (VecDeque T Z) → List T
   joined = flat_map deque_items
 
-  -- so many items are in tiers with room for a tier's: each has as many as it can of those that the tiers before it leave
+  -- so many items are in tiers with room for a tier's, and no more: each has as many as it can of those that the tiers before it leave
   pub record AreFilled (count : ℕ) (tiers : List (VecDeque T Z)) : Type 0 where
     pub each : (k : ℕ) (d : VecDeque T Z) → k < length tiers → deque_len (get_or tiers k d) ≡ min TIER (count - TIER * k)
-    pub wide : (k : ℕ) (d : VecDeque T Z) → k < length tiers → TIER ≤ deque_capacity (get_or tiers k d)
+    pub wide : (k : ℕ) (d : VecDeque T Z) → k < length tiers → deque_capacity (get_or tiers k d) ≡ TIER
     pub within : count ≤ TIER * length tiers

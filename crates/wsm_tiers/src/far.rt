@@ -22,7 +22,7 @@ pub(crate) struct Far<T> {
 }
 
 impl<T> Model for Far<T> {
-    ghost use Rattle.std.specs.Prelude.{◌*◌, ◌≤◌, length};
+    ghost use Rattle.std.specs.Prelude.{◌≡◌, ◌*◌, ◌≤◌, length, vec_capacity};
     ghost use Rattle.wsm_tiers.specs.Listed.{Listed, listed_code};
 
     ghost Value = { Listed T };
@@ -34,7 +34,7 @@ impl<T> Model for Far<T> {
 
     ghost view = { λ a. record { items = joined a.tiers.items; room = a.room } };
 
-    ghost invariant = { λ a. AreFilled a.len a.tiers.items × (a.len ≤ a.room) × (a.room ≤ TIER * length a.tiers.items) };
+    ghost invariant = { λ a. AreFilled a.len a.tiers.items × (a.len ≤ a.room) × (a.room ≤ TIER * length a.tiers.items) × (vec_capacity a.tiers ≡ length a.tiers.items) };
 }
 
 impl<T: Copy + Drop> Far<T> {
@@ -131,6 +131,7 @@ impl<T: Copy + Drop> Far<T> {
 fn tiers<T: Drop>(alloc: Global, count: usize) -> Result<Vec<VecDeque<T>>, AllocError>
     ensures filled { IfOk result (λ tiers. AreFilled 0 tiers.items) }
     ensures count { IfOk result (λ tiers. length tiers.items ≡ count) }
+    ensures capacity { IfOk result (λ tiers. vec_capacity tiers ≡ count) }
 {
     let mut tiers = Vec::with_capacity(alloc, count)?;
     for made in 0..count {
@@ -148,11 +149,12 @@ fn put<T>(tiers: &mut Vec<VecDeque<T>>, len: usize, at: usize, item: T)
     ensures items { joined tiers.new.items ≡ insert (joined tiers.old.items) at item }
     ensures filled { AreFilled (len + 1) tiers.new.items }
     ensures room { length tiers.new.items ≡ length tiers.old.items }
+    ensures capacity { vec_capacity tiers.new ≡ vec_capacity tiers.old }
 {
     let first = at / TIER;
     let last = len / TIER;
     if first == last {
-        tiers[first].insert(at % TIER, item).unwrap();
+        place(&mut tiers[first], at % TIER, item);
     } else {
         let mut carried = squeeze(&mut tiers[first], at % TIER, item);
         for tier in first + 1..last {
@@ -162,15 +164,28 @@ fn put<T>(tiers: &mut Vec<VecDeque<T>>, len: usize, at: usize, item: T)
     }
 }
 
+// Puts an item in front of the one of a number, where the tier has room.
+fn place<T>(tier: &mut VecDeque<T>, at: usize, value: T)
+    requires at { at ≤ deque_len tier.old }
+    requires room { deque_len tier.old < deque_capacity tier.old }
+    ensures items { tier.new.items ≡ insert tier.old.items at value }
+    ensures len { deque_len tier.new ≡ deque_len tier.old + 1 }
+    ensures capacity { deque_capacity tier.new ≡ deque_capacity tier.old }
+{
+    tier.rotate_left(at);
+    tier.push_front_reserved(value);
+    tier.rotate_right(at);
+}
+
 // Puts an item into a full tier, and takes its last out.
 fn squeeze<T>(tier: &mut VecDeque<T>, at: usize, item: T) -> T
     requires at { at < deque_len tier.old }
     ensures items { insert tier.old.items at item ≡ tier.new.items ++ result ∷ [] }
     ensures len { deque_len tier.new ≡ deque_len tier.old }
-    ensures capacity { deque_capacity tier.old ≤ deque_capacity tier.new }
+    ensures capacity { deque_capacity tier.new ≡ deque_capacity tier.old }
 {
     let last = tier.pop_back().unwrap();
-    tier.insert(at, item).unwrap();
+    place(tier, at, item);
     last
 }
 
@@ -194,6 +209,7 @@ fn take<T>(tiers: &mut Vec<VecDeque<T>>, len: usize, at: usize) -> T
     ensures items { joined tiers.new.items ≡ remove (joined tiers.old.items) at }
     ensures filled { (n : ℕ) → n + 1 ≡ len → AreFilled n tiers.new.items }
     ensures room { length tiers.new.items ≡ length tiers.old.items }
+    ensures capacity { vec_capacity tiers.new ≡ vec_capacity tiers.old }
 {
     let first = at / TIER;
     let item = tiers[first].remove(at % TIER).unwrap();

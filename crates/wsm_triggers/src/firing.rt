@@ -49,7 +49,8 @@ pub fn on_watermark(
     requires end { IsEnd end }
     requires lateness { IsSpan lateness }
     // The kind that every query with this mode and lateness gives, for records that are so many.
-    ensures { (q : Query) (place : Place) (all missed : List Datum) → EndsIn q place mode lateness end → length all ≡ count → length missed ≡ unshown → result ≡ kind_on_watermark q old new place (length (firing_set q.mode all missed)) (length missed) }
+    ensures { (q : Query) (place : Place) (all missed : List Datum) → EndsIn q place mode lateness end → length all ≡ count → length missed ≡ unshown →
+        result ≡ kind_on_watermark q old new place (length (firing_set q.mode all missed)) (length missed) }
 {
     if comes_with(end, old, new, computed_over(mode, count, unshown)) {
         Some(PaneKind::OnTime)

@@ -1,7 +1,7 @@
 use Rattle.std.proofs.Common.{rules, ◌≡◌, ◌≤◌, ◌+◌, ◌++◌, ◌∙◌, Bool, true, cond, [], SFits, w64, to_z-of_z, length, sym, ap, arith}
 use Rattle.std.proofs.lemmas.Bool.{not-false}
 use Rattle.wsm_semantics.specs.Replay.{datum}
-use Rattle.wsm_semantics.specs.HeldBounds.{rows_of_panes}
+use Rattle.wsm_semantics.specs.HeldBounds.{rows_of_panes, most_panes}
 use Rattle.wsm_semantics.specs.Summaries.{all_fired, entered, kind_by_record, after_record, fired_by_record, withdrawn_by_record, withdrawn_entering}
 use Rattle.wsm_machine.specs.Meaning.{plan_of, query_of, selects, where_run}
 use Rattle.wsm_machine.proofs.RunAnswers.{keeps_is}
@@ -9,12 +9,10 @@ use Rattle.wsm_panes.specs.Held.{entries_of}
 use Rattle.wsm_firing.specs.Tally.{tally_of}
 use Rattle.wsm_firing.specs.Firing.{turn_rows}
 use Rattle.wsm_firing.specs.ByRecord.{fires_by_record, withdrawn_of_record}
-use Rattle.wsm_engine.specs.Operator.{entering_cost, rows_with}
+use Rattle.wsm_engine.specs.Operator.{entering_cost, rows_with, last_relation}
 use Rattle.wsm_engine.proofs.RecordsByPlan.{after_same, fires_same, withdrawn_same}
 use Rattle.wsm_engine.proofs.HeldByHistory.{Panes}
-use Rattle.wsm_semantics.specs.HeldBounds.{most_panes}
 use Rattle.wsm_firing.specs.Streams.{IsTold, standing_rows}
-use Rattle.wsm_engine.specs.Operator.{last_relation}
 use Rattle.wsm_engine.proofs.Told.{last_is, are_told, can_tell, of_next, ready_of, alike_on}
 use Rattle.wsm_engine.proofs.OperatorEvents.{can_fire, cost_stated, few_entered}
 use Rattle.wsm_engine.proofs.acting.take_record.Goals as goal

@@ -3,10 +3,10 @@ use Rattle.std.proofs.lemmas.Int.{ints, fits_signed_from_abs}
 use Rattle.wsm_program.specs.Program.{Program, is_program}
 use Rattle.wsm_program.specs.View.{header_of}
 use Rattle.wsm_rules.proofs.Lawful.{IsLawful, lawful_seen, span_seen}
-use Rattle.wsm_panes.specs.declared.widths.Widths.{Widths}
+use Rattle.wsm_slots.specs.declared.widths.Widths.{Widths}
 use Rattle.wsm_panes.specs.Held.{entries_of}
 use Rattle.wsm_firing.proofs.Headers.{lawful_firing}
-use Rattle.wsm_panes.proofs.Tables.{entries_none}
+use Rattle.wsm_list.proofs.Tables.{entries_none}
 use Rattle.wsm_engine.proofs.Limits.{room_few}
 use Rattle.wsm_engine.proofs.Told.{last_is, are_told, open_is}
 use Rattle.wsm_engine.proofs.opening.open_operator.Goals as goal
@@ -35,17 +35,22 @@ live_bound-live-requires-clause-skew c = span_seen c.header-header.result.now.cl
 pub live_bound-live-requires-clause-lateness : goal.live_bound-live-requires-clause-lateness
 live_bound-live-requires-clause-lateness c = span_seen c.header-header.result.now.clock.lateness (declared (goal.at.live_bound-live-requires-clause-lateness c).After-header-header).lateness
 
-pub open-requires-clause-shape : goal.open-requires-clause-shape
-open-requires-clause-shape c = (declared (goal.at.open-requires-clause-shape c).After-header-header).shape
+pub open-requires : goal.open-requires
+open-requires c =
+    let g = goal.at.open-requires c in
+    let few = few g.After-live_bound-live in
+    let header = declared g.After-header-header in
+    let columns = (lawful_firing c.program.result.now (header_of c.header-header.result.now) c.header-header.ensures.header c.header-header.ensures.lawful).columns in
+    record {
+      possible = header.shape;
+      room = omega (arith, few);
+      accumulators = omega (arith, ap (λ (w : Widths). w.accumulators) c.widths.ensures, header.kinds);
+      columns = omega (arith, ap (λ (w : Widths). w.columns) c.widths.ensures, columns);
+    }
 
 pub overflow_mul-room : goal.overflow_mul-room
 overflow_mul-room c =
     let few = few (goal.at.overflow_mul-room c).After-live_bound-live in
-    omega (arith, few)
-
-pub open-requires-clause-room : goal.open-requires-clause-room
-open-requires-clause-room c =
-    let few = few (goal.at.open-requires-clause-room c).After-live_bound-live in
     omega (arith, few)
 
 pub open-requires-2 : goal.open-requires-2
@@ -57,16 +62,6 @@ pub open-requires-3 : goal.open-requires-3
 open-requires-3 c =
     let few = few (goal.at.open-requires-3 c).After-live_bound-live in
     omega (arith, few)
-
-pub open-requires-clause-accumulators : goal.open-requires-clause-accumulators
-open-requires-clause-accumulators c =
-    let kinds = (declared (goal.at.open-requires-clause-accumulators c).After-header-header).kinds in
-    omega (arith, ap (λ (w : Widths). w.accumulators) c.widths.ensures, kinds)
-
-pub open-requires-clause-columns : goal.open-requires-clause-columns
-open-requires-clause-columns c =
-    let columns = (lawful_firing c.program.result.now (header_of c.header-header.result.now) c.header-header.ensures.header c.header-header.ensures.lawful).columns in
-    omega (arith, ap (λ (w : Widths). w.columns) c.widths.ensures, columns)
 
 pub returns-clause-panes : goal.returns-clause-panes
 returns-clause-panes c = ap entries_of c.in_ok-open.ensures ∙ entries_none

@@ -8,7 +8,7 @@ use Rattle.std.specs.FinMap as map
 use Rattle.wsm_windows.specs.declared.place.Place.{Place}
 use Rattle.wsm_windows.specs.Places.{place_cmp}
 use Rattle.wsm_panes.specs.Held.{entries_of}
-use Rattle.wsm_panes.specs.Walk.{place_due, place_found}
+use Rattle.wsm_slots.specs.Walk.{place_due, place_found}
 use Rattle.wsm_semantics.specs.Summaries.{Pane}
 use Rattle.wsm_firing.specs.Streams.{IsTold, standing_rows}
 use Rattle.wsm_firing.proofs.Past.{left, none_goes, next_goes}
@@ -33,17 +33,17 @@ loop-init c =
     let limit : ℤ = to_z w64 (of_z w64 c.args.limit) in
     record { told = λ relation told. told; alike = record { form = refl; room = refl }; past = refl; spot = c.first_due-next.ensures.spot; next = c.first_due-next.ensures.place }
 
-pub pane-requires-clause-there : goal.pane-requires-clause-there
-pane-requires-clause-there c = is_held (goal.at.pane-requires-clause-there c).In-Some
+pub pane-requires : goal.pane-requires
+pane-requires c = record {
+  there = is_held (goal.at.pane-requires c).In-Some;
+  lies = spot_in c.args.held.now c.loop.next c.in-Some.spot c.loop.invariant.spot c.in-Some.is;
+}
 
-pub pane-requires-clause-spot : goal.pane-requires-clause-spot
-pane-requires-clause-spot c = spot_in c.args.held.now c.loop.next c.in-Some.spot c.loop.invariant.spot c.in-Some.is
-
-pub next_due-next-requires-clause-there : goal.next_due-next-requires-clause-there
-next_due-next-requires-clause-there c = is_held (goal.at.next_due-next-requires-clause-there c).In-Some
-
-pub next_due-next-requires-clause-spot : goal.next_due-next-requires-clause-spot
-next_due-next-requires-clause-spot c = spot_in c.args.held.now c.loop.next c.in-Some.spot c.loop.invariant.spot c.in-Some.is
+pub next_due-next-requires : goal.next_due-next-requires
+next_due-next-requires c = record {
+  there = is_held (goal.at.next_due-next-requires c).In-Some;
+  lies = spot_in c.args.held.now c.loop.next c.in-Some.spot c.loop.invariant.spot c.in-Some.is;
+}
 
 pub lose-requires : goal.lose-requires
 lose-requires c =
@@ -78,22 +78,28 @@ loop-preserved c =
       next = c.next_due-next.ensures.place ∙ due_behind limit es i e.0 sorted due;
     }
 
-pub returns-in_default-clause-told : goal.returns-in_default-clause-told
-returns-in_default-clause-told c =
+pub returns-in_default : goal.returns-in_default
+returns-in_default c =
     let es = entries_of c.args.held.now in let i : ℕ = c.loop.counter in let sorted = map.entries_sorted c.args.held.now.panes in
     let limit : ℤ = to_z w64 (of_z w64 c.args.limit) in
-    λ relation told.
-    let fits : SFits w64 c.args.limit = c.ranges.limit in
-    let none : place_due limit (slice_get es i) ≡ None = sym c.loop.invariant.next ∙ ap place_found c.in_default.is in
-    let all : left limit es ≡ drop i es = c.loop.invariant.past ∙ none_goes limit es i sorted none in
-    subst (λ (fs : Panes). IsTold c.loop.streams relation (standing_rows fs)) (sym (simp to_z-of_z at all)) (c.loop.invariant.told relation told)
+    record {
+      alike = c.loop.invariant.alike;
+      told = λ relation told.
+          let fits : SFits w64 c.args.limit = c.ranges.limit in
+          let none : place_due limit (slice_get es i) ≡ None = sym c.loop.invariant.next ∙ ap place_found c.in_default.is in
+          let all : left limit es ≡ drop i es = c.loop.invariant.past ∙ none_goes limit es i sorted none in
+          subst (λ (fs : Panes). IsTold c.loop.streams relation (standing_rows fs)) (sym (simp to_z-of_z at all)) (c.loop.invariant.told relation told);
+    }
 
-pub returns-after-loop-clause-told : goal.returns-after-loop-clause-told
-returns-after-loop-clause-told c =
+pub returns-after-loop : goal.returns-after-loop
+returns-after-loop c =
     let es = entries_of c.args.held.now in let i : ℕ = c.loop.counter in let sorted = map.entries_sorted c.args.held.now.panes in
     let limit : ℤ = to_z w64 (of_z w64 c.args.limit) in
-    λ relation told.
-    let fits : SFits w64 c.args.limit = c.ranges.limit in
-    let gone : drop i es ≡ [] = drop_all i es (omega arith) in
-    let all : left limit es ≡ drop i es = c.loop.invariant.past ∙ ap (left limit) gone ∙ sym gone in
-    subst (λ (fs : Panes). IsTold c.loop.streams relation (standing_rows fs)) (sym (simp to_z-of_z at all)) (c.loop.invariant.told relation told)
+    record {
+      alike = c.loop.invariant.alike;
+      told = λ relation told.
+          let fits : SFits w64 c.args.limit = c.ranges.limit in
+          let gone : drop i es ≡ [] = drop_all i es (omega arith) in
+          let all : left limit es ≡ drop i es = c.loop.invariant.past ∙ ap (left limit) gone ∙ sym gone in
+          subst (λ (fs : Panes). IsTold c.loop.streams relation (standing_rows fs)) (sym (simp to_z-of_z at all)) (c.loop.invariant.told relation told);
+    }

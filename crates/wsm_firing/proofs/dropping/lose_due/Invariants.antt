@@ -2,7 +2,7 @@ use Rattle.std.proofs.Common.{◌≡◌, drop, List}
 use Rattle.std.specs.Prelude.{IfSome, slice_get}
 use Rattle.wsm_record.specs.declared.cell.Cell.{Cell}
 use Rattle.wsm_panes.specs.Held.{IsSpot, entries_of}
-use Rattle.wsm_panes.specs.Walk.{place_due, place_found}
+use Rattle.wsm_slots.specs.Walk.{place_due, place_found}
 use Rattle.wsm_firing.specs.Streams.{AreAlike, IsTold, standing_rows}
 use Rattle.wsm_firing.proofs.Past.{left}
 use Rattle.wsm_firing.proofs.dropping.lose_due.Given as goal

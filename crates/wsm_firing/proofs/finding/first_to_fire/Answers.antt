@@ -3,8 +3,8 @@ use Rattle.std.specs.Int.{int_max}
 use Rattle.std.specs.Prelude.{IfSome, slice_get}
 use Rattle.std.specs.FinMap as map
 use Rattle.wsm_panes.specs.Held.{IsSpot, entries_of}
-use Rattle.wsm_panes.specs.Walk.{first_past, place_due, place_found}
-use Rattle.wsm_panes.specs.declared.spot.Spot.{Spot}
+use Rattle.wsm_slots.specs.Walk.{first_past, place_due, place_found}
+use Rattle.wsm_slots.specs.declared.spot.Spot.{Spot}
 use Rattle.wsm_firing.proofs.Jumps.{goes_past}
 use Rattle.wsm_firing.proofs.Spots.{spot_in}
 use Rattle.wsm_firing.proofs.finding.first_to_fire.Goals as goal

@@ -4,12 +4,12 @@ use Rattle.std.specs.Prelude.{IfSome, slice_get}
 use Rattle.std.specs.Option.{is_some}
 use Rattle.wsm_record.specs.declared.event.Value.{Value}
 use Rattle.wsm_semantics.specs.Summaries.{Pane}
-use Rattle.wsm_panes.specs.declared.spot.Spot.{Spot}
+use Rattle.wsm_slots.specs.declared.spot.Spot.{Spot}
 use Rattle.std.specs.FinMap as map
 use Rattle.wsm_windows.specs.declared.place.Place.{Place}
 use Rattle.wsm_panes.specs.Held.{IsSpot, entries_of}
-use Rattle.wsm_panes.specs.Walk.{first_past, place_due, place_found}
-use Rattle.wsm_panes.proofs.Rings.{not_less_from}
+use Rattle.wsm_slots.specs.Walk.{first_past, place_due, place_found}
+use Rattle.wsm_ring.proofs.Rings.{not_less_from}
 use Rattle.wsm_firing.proofs.Walk.{next_behind}
 use Rattle.wsm_firing.proofs.Jumps.{due_later, expires_before, goes_next, goes_past}
 use Rattle.wsm_firing.proofs.finding.next_to_fire.Goals as goal

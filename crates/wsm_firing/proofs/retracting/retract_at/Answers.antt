@@ -1,4 +1,4 @@
-use Rattle.std.proofs.Common.{◌≡◌, Some, true, refl, sym, ap, ◌∙◌, SFits, w64, to_z-of_z, arith}
+use Rattle.std.proofs.Common.{◌≡◌, Some, true, refl, sym, ap, ◌∙◌, SFits, w64, to_z-of_z, arith, rules}
 use Rattle.std.specs.FinMap as map
 use Rattle.std.specs.Option.{is_some}
 use Rattle.std.specs.FinMap.Entries.{find}
@@ -6,7 +6,7 @@ use Rattle.wsm_windows.specs.Places.{place_cmp}
 use Rattle.wsm_semantics.specs.Firings.{kind_on_record}
 use Rattle.wsm_machine.specs.Meaning.{plan_of, query_of}
 use Rattle.wsm_panes.specs.Held.{entries_of}
-use Rattle.wsm_panes.specs.Walk.{place_found}
+use Rattle.wsm_slots.specs.Walk.{place_found}
 use Rattle.wsm_firing.proofs.RetractAt.{one_at, put_none, put_one, put_quiet}
 use Rattle.wsm_firing.proofs.Walk.{none_found, spot_found}
 use Rattle.wsm_firing.proofs.Spots.{spot_in}
@@ -25,10 +25,12 @@ fires_is c =
     let mark : SFits w64 c.args.mark = c.ranges.mark in
     ap is_some (ap (kind_on_record (query_of c.args.verified.now) c.args.mark c.args.place.end) (sym c.unshown.ensures) ∙ sym (simp to_z-of_z at c.record_kind.ensures)) ∙ sym c.is_some.ensures
 
-pub returns-in_default-clause-rows : goal.returns-in_default-clause-rows
-returns-in_default-clause-rows c =
-    let p = c.args.verified.now in let es = entries_of c.args.held.now in
-    put_none (plan_of p) (query_of p) c.args.mark c.args.place es (map.entries_sorted c.args.held.now.panes) (none_found c.args.place (find place_cmp c.args.place es) (sym c.find.ensures.place ∙ ap place_found c.in_default.is)) c.args.rows.now.written
+pub returns-in_default : goal.returns-in_default
+returns-in_default c = record {
+  room = refl;
+  rows = let p = c.args.verified.now in let es = entries_of c.args.held.now in
+      put_none (plan_of p) (query_of p) c.args.mark c.args.place es (map.entries_sorted c.args.held.now.panes) (none_found c.args.place (find place_cmp c.args.place es) (sym c.find.ensures.place ∙ ap place_found c.in_default.is)) c.args.rows.now.written;
+}
 
 pub retract-requires : goal.retract-requires
 retract-requires c =
@@ -39,20 +41,27 @@ retract-requires c =
     let one = one_at (plan_of p) (query_of p) c.args.mark c.args.place es (map.entries_sorted c.args.held.now.panes) c.pane-pane.result (there (goal.at.retract-requires c).After-pane-pane at) fires in
     record { room = omega (arith, c.requires.room, one) }
 
-pub returns-then-is_some-clause-rows : goal.returns-then-is_some-clause-rows
-returns-then-is_some-clause-rows c =
-    let p = c.args.verified.now in let es = entries_of c.args.held.now in
-    let at = (found (goal.at.returns-then-is_some-clause-rows c).In-Some).0 in
-    let fires = fires_is (goal.at.returns-then-is_some-clause-rows c).After-is_some ∙ c.if-is_some.true in
-    put_one (plan_of p) (query_of p) c.args.mark c.args.place es (map.entries_sorted c.args.held.now.panes) c.pane-pane.result (there (goal.at.returns-then-is_some-clause-rows c).After-pane-pane at) fires
-    c.args.rows.now.written c.retract.new.rows.written (c.retract.ensures.rows c.args.place refl)
+pub returns-then-is_some : goal.returns-then-is_some
+returns-then-is_some c = record {
+  room = c.retract.ensures.room;
+  rows = let p = c.args.verified.now in let es = entries_of c.args.held.now in
+      let at = (found (goal.at.returns-then-is_some c).In-Some).0 in
+      let fires = fires_is (goal.at.returns-then-is_some c).After-is_some ∙ c.if-is_some.true in
+      put_one (plan_of p) (query_of p) c.args.mark c.args.place es (map.entries_sorted c.args.held.now.panes) c.pane-pane.result (there (goal.at.returns-then-is_some c).After-pane-pane at) fires
+      c.args.rows.now.written c.retract.new.rows.written (c.retract.ensures.rows c.args.place refl);
+}
 
-pub returns-else-is_some-clause-rows : goal.returns-else-is_some-clause-rows
-returns-else-is_some-clause-rows c =
-    let p = c.args.verified.now in let es = entries_of c.args.held.now in
-    let at = (found (goal.at.returns-else-is_some-clause-rows c).In-Some).0 in
-    let quiet = fires_is (goal.at.returns-else-is_some-clause-rows c).After-is_some ∙ c.if-is_some.false in
-    put_quiet (plan_of p) (query_of p) c.args.mark c.args.place es (map.entries_sorted c.args.held.now.panes) c.pane-pane.result (there (goal.at.returns-else-is_some-clause-rows c).After-pane-pane at) quiet c.args.rows.now.written
+pub returns-else-is_some : goal.returns-else-is_some
+returns-else-is_some c = record {
+  room = refl;
+  rows = let p = c.args.verified.now in let es = entries_of c.args.held.now in
+      let at = (found (goal.at.returns-else-is_some c).In-Some).0 in
+      let quiet = fires_is (goal.at.returns-else-is_some c).After-is_some ∙ c.if-is_some.false in
+      put_quiet (plan_of p) (query_of p) c.args.mark c.args.place es (map.entries_sorted c.args.held.now.panes) c.pane-pane.result (there (goal.at.returns-else-is_some c).After-pane-pane at) quiet c.args.rows.now.written;
+}
 
-pub pane-pane-requires-clause-spot : goal.pane-pane-requires-clause-spot
-pane-pane-requires-clause-spot c = spot_in c.args.held.now c.find.result c.in-Some.spot c.find.ensures.spot c.in-Some.is
+pub pane-pane-requires : goal.pane-pane-requires
+pane-pane-requires c = record {
+  there = search rules;
+  lies = spot_in c.args.held.now c.find.result c.in-Some.spot c.find.ensures.spot c.in-Some.is;
+}

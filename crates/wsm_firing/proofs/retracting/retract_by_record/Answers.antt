@@ -1,4 +1,4 @@
-use Rattle.std.proofs.Common.{◌≡◌, ◌+◌, ◌≤◌, sym, ap, subst, ◌∙◌, length, arith}
+use Rattle.std.proofs.Common.{◌+◌, ◌≤◌, sym, subst, ◌∙◌, length, arith}
 use Rattle.wsm_panes.specs.Held.{entries_of}
 use Rattle.wsm_firing.specs.Tally.{nothing}
 use Rattle.wsm_firing.specs.Firing.{CanAdd}

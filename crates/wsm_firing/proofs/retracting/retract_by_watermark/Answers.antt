@@ -1,4 +1,4 @@
-use Rattle.std.proofs.Common.{◌≡◌, ◌+◌, ◌≤◌, ◌++◌, List, IsTrue, refl, sym, ap, subst, ◌∙◌, length, SFits, w64, to_z-of_z, arith}
+use Rattle.std.proofs.Common.{◌+◌, ◌≤◌, ◌++◌, List, IsTrue, refl, sym, ap, subst, ◌∙◌, length, SFits, w64, to_z-of_z, arith}
 use Rattle.wsm_record.specs.declared.cell.Cell.{Cell}
 use Rattle.wsm_windows.specs.declared.place.Place.{Place}
 use Rattle.wsm_semantics.specs.Summaries.{withdrawn_by_watermark}

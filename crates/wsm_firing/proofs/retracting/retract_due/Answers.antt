@@ -9,7 +9,7 @@ use Rattle.wsm_program.specs.View.{header_of}
 use Rattle.wsm_rules.proofs.Lawful as lawful_programs
 use Rattle.wsm_machine.specs.Meaning.{query_of}
 use Rattle.wsm_panes.specs.Held.{entries_of}
-use Rattle.wsm_panes.specs.Walk.{place_found}
+use Rattle.wsm_slots.specs.Walk.{place_found}
 use Rattle.wsm_firing.specs.TurnRows.{Rows}
 use Rattle.wsm_firing.specs.ByWatermark.{fires_by_watermark}
 use Rattle.wsm_firing.proofs.RetractWalk.{HasPassed, comes_to, ends_behind_all, ends_at_none, has_room, is_held, is_placed, puts, puts_first, stays, there}
@@ -49,14 +49,17 @@ loop-init c =
       walked = comes_to late _ 0 (expires (goal.at.loop-init c).After-last_expired-expired) (omega arith) (puts_first c.args.rows.now.written _ _) c.first_to_fire-next.ensures.next;
     }
 
-pub pane-pane-requires-clause-there : goal.pane-pane-requires-clause-there
-pane-pane-requires-clause-there c = is_held c.loop.invariant.walked (ap place_found c.in-Some.is) (map.entries_sorted c.args.held.now.panes)
+pub pane-pane-requires : goal.pane-pane-requires
+pane-pane-requires c = record {
+  there = is_held c.loop.invariant.walked (ap place_found c.in-Some.is) (map.entries_sorted c.args.held.now.panes);
+  lies = spot_in c.args.held.now c.loop.next c.in-Some.spot c.loop.invariant.spot c.in-Some.is;
+}
 
-pub pane-pane-requires-clause-spot : goal.pane-pane-requires-clause-spot
-pane-pane-requires-clause-spot c = spot_in c.args.held.now c.loop.next c.in-Some.spot c.loop.invariant.spot c.in-Some.is
-
-pub next_to_fire-next-requires-clause-spot : goal.next_to_fire-next-requires-clause-spot
-next_to_fire-next-requires-clause-spot c = spot_in c.args.held.now c.loop.next c.in-Some.spot c.loop.invariant.spot c.in-Some.is
+pub next_to_fire-next-requires-clause-held : goal.next_to_fire-next-requires-clause-held
+next_to_fire-next-requires-clause-held c = record {
+  there = is_held c.loop.invariant.walked (ap place_found c.in-Some.is) (map.entries_sorted c.args.held.now.panes);
+  lies = spot_in c.args.held.now c.loop.next c.in-Some.spot c.loop.invariant.spot c.in-Some.is;
+}
 
 pub watermark_kind-requires-clause-lateness : goal.watermark_kind-requires-clause-lateness
 watermark_kind-requires-clause-lateness c =
@@ -95,13 +98,17 @@ loop-preserved c =
       walked = comes_to late _ (walked.passed + 1) expires (omega (arith, walked.onward)) passed (c.next_to_fire-next.ensures.next walked.passed c.pane-pane.result (there walked is sorted found));
     }
 
-pub returns-after-loop-clause-rows : goal.returns-after-loop-clause-rows
-returns-after-loop-clause-rows c =
-    let old_fits : SFits w64 c.args.old = c.ranges.old in let new_fits : SFits w64 c.args.new = c.ranges.new in
-    simp to_z-of_z at (ends_behind_all c.loop.invariant.walked (omega arith))
+pub returns-after-loop : goal.returns-after-loop
+returns-after-loop c = record {
+  room = c.loop.invariant.room;
+  rows = let old_fits : SFits w64 c.args.old = c.ranges.old in let new_fits : SFits w64 c.args.new = c.ranges.new in
+      simp to_z-of_z at (ends_behind_all c.loop.invariant.walked (omega arith));
+}
 
-pub returns-in_default-clause-rows : goal.returns-in_default-clause-rows
-returns-in_default-clause-rows c =
-    let old_fits : SFits w64 c.args.old = c.ranges.old in let new_fits : SFits w64 c.args.new = c.ranges.new in
-    let whole : IsTrue (is_program c.args.verified.now) = subst (λ (p : Program). IsTrue (is_program p)) c.program.ensures.program c.header-header.ensures.lawful in
-    simp to_z-of_z at (ends_at_none c.loop.invariant.walked (lawful_programs.lawful c.args.verified.now whole).lateness.low (map.entries_sorted c.args.held.now.panes) (ap place_found c.in_default.is))
+pub returns-in_default : goal.returns-in_default
+returns-in_default c = record {
+  room = c.loop.invariant.room;
+  rows = let old_fits : SFits w64 c.args.old = c.ranges.old in let new_fits : SFits w64 c.args.new = c.ranges.new in
+      let whole : IsTrue (is_program c.args.verified.now) = subst (λ (p : Program). IsTrue (is_program p)) c.program.ensures.program c.header-header.ensures.lawful in
+      simp to_z-of_z at (ends_at_none c.loop.invariant.walked (lawful_programs.lawful c.args.verified.now whole).lateness.low (map.entries_sorted c.args.held.now.panes) (ap place_found c.in_default.is));
+}

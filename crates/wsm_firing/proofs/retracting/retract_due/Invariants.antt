@@ -1,7 +1,7 @@
 use Rattle.std.proofs.Common.{◌≡◌}
 use Rattle.std.specs.Prelude.{IfSome}
 use Rattle.wsm_panes.specs.Held.{IsSpot, entries_of}
-use Rattle.wsm_panes.specs.Walk.{place_found}
+use Rattle.wsm_slots.specs.Walk.{place_found}
 use Rattle.wsm_firing.proofs.RetractWalk.{HasComeTo}
 use Rattle.wsm_firing.proofs.retracting.retract_due.Given as goal
 

@@ -1,4 +1,4 @@
-use Rattle.std.proofs.Common.{◌≡◌, ◌+◌, ◌≤◌, ◌∷◌, [], ◌++◌, ℤ, ℕ, List, map, length, refl, sym, ap, subst, ◌∙◌, SFits, w64, to_z, of_z, to_z-of_z, arith}
+use Rattle.std.proofs.Common.{◌≡◌, ◌+◌, ◌≤◌, ◌∷◌, [], ◌++◌, ℤ, ℕ, List, map, length, refl, sym, ap, subst, ◌∙◌, SFits, w64, to_z, of_z, to_z-of_z, arith, rules}
 use Rattle.std.specs.FinMap as panes
 use Rattle.wsm_windows.specs.declared.window.Window.{Window}
 use Rattle.wsm_windows.specs.declared.place.Place.{Place}
@@ -74,10 +74,12 @@ loop-window-preserved c =
       so_far = puts_next c.loop-window.invariant.so_far c.retract_at.new.rows.written _ _ _ _ turn.written turn.number c.retract_at.ensures.rows;
     }
 
-pub returns-clause-rows : goal.returns-clause-rows
-returns-clause-rows c =
-    let p = plan_of c.args.verified.now in let q = query_of c.args.verified.now in let es = entries_of c.args.held.now in
-    let mark : ℤ = to_z w64 (of_z w64 c.args.mark) in let mark_fits : SFits w64 c.args.mark = c.ranges.mark in
-    let none : withdrawn_at p q mark (map (at c.args.key) c.loop-window.window-iterator) es ≡ [] =
-    ap (λ (ws : List Window). withdrawn_at p q mark (map (at c.args.key) ws) es) c.in-None.ensures.steps.0 ∙ withdrawn_nowhere p q mark es in
-    simp to_z-of_z at (puts_all c.loop-window.invariant.so_far none)
+pub returns : goal.returns
+returns c = record {
+  room = search rules;
+  rows = let p = plan_of c.args.verified.now in let q = query_of c.args.verified.now in let es = entries_of c.args.held.now in
+      let mark : ℤ = to_z w64 (of_z w64 c.args.mark) in let mark_fits : SFits w64 c.args.mark = c.ranges.mark in
+      let none : withdrawn_at p q mark (map (at c.args.key) c.loop-window.window-iterator) es ≡ [] =
+      ap (λ (ws : List Window). withdrawn_at p q mark (map (at c.args.key) ws) es) c.in-None.ensures.steps.0 ∙ withdrawn_nowhere p q mark es in
+      simp to_z-of_z at (puts_all c.loop-window.invariant.so_far none);
+}

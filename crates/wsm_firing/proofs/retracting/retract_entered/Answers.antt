@@ -33,14 +33,18 @@ retract_each-requires-clause-room c =
     let room : length c.args.rows.now.written + number_at (plan_of p) (query_of p) c.args.arrival.mark (map (at c.args.arrival.key) c.windows_of_record-windows.result) es ≤ c.args.rows.now.room = omega (arith, c.requires.room, ap length alike.firings) in
     simp to_z-of_z room
 
-pub returns-in-Some-clause-rows : goal.returns-in-Some-clause-rows
-returns-in-Some-clause-rows c =
-    let mark : SFits w64 c.args.arrival.mark = search rules in
-    let alike = in_session (goal.at.returns-in-Some-clause-rows c).After-at-place in
-    subst (λ (x : Written × ℕ). AreWithdrawn c.args.rows.now.written c.retract_at.new.rows.written x.0 x.1) (λ i. (alike.withdrawn i, length (alike.firings i))) (simp to_z-of_z at c.retract_at.ensures.rows)
+pub returns-in-Some : goal.returns-in-Some
+returns-in-Some c = record {
+  room = c.retract_at.ensures.room;
+  rows = let mark : SFits w64 c.args.arrival.mark = search rules in
+      let alike = in_session (goal.at.returns-in-Some c).After-at-place in
+      subst (λ (x : Written × ℕ). AreWithdrawn c.args.rows.now.written c.retract_at.new.rows.written x.0 x.1) (λ i. (alike.withdrawn i, length (alike.firings i))) (simp to_z-of_z at c.retract_at.ensures.rows);
+}
 
-pub returns-in-None-clause-rows : goal.returns-in-None-clause-rows
-returns-in-None-clause-rows c =
-    let mark : SFits w64 c.args.arrival.mark = search rules in
-    let alike = in_windows (goal.at.returns-in-None-clause-rows c).After-windows_of_record-windows in
-    subst (λ (x : Written × ℕ). AreWithdrawn c.args.rows.now.written c.retract_each.new.rows.written x.0 x.1) (λ i. (alike.withdrawn i, length (alike.firings i))) (simp to_z-of_z at c.retract_each.ensures.rows)
+pub returns-in-None : goal.returns-in-None
+returns-in-None c = record {
+  room = c.retract_each.ensures.room;
+  rows = let mark : SFits w64 c.args.arrival.mark = search rules in
+      let alike = in_windows (goal.at.returns-in-None c).After-windows_of_record-windows in
+      subst (λ (x : Written × ℕ). AreWithdrawn c.args.rows.now.written c.retract_each.new.rows.written x.0 x.1) (λ i. (alike.withdrawn i, length (alike.firings i))) (simp to_z-of_z at c.retract_each.ensures.rows);
+}

@@ -3,7 +3,7 @@ use Rattle.std.specs.List.{cons_option}
 use Rattle.wsm_record.specs.declared.cell.Cell.{Cell}
 use Rattle.wsm_windows.specs.declared.place.Place.{Place}
 use Rattle.wsm_semantics.specs.Summaries.{written_by}
-use Rattle.wsm_panes.specs.Held.{has_fired}
+use Rattle.wsm_slots.specs.Panes.{has_fired}
 use Rattle.wsm_firing.specs.Retracting.{AreWithdrawn}
 use Rattle.wsm_firing.proofs.RetractWalk.{Written, withdrawn_on}
 use Rattle.wsm_firing.proofs.retracting.retract_pair.Goals as goal

@@ -3,8 +3,8 @@ use Rattle.std.specs.Prelude.{filter}
 use Rattle.std.specs.FinMap as map
 use Rattle.std.specs.FinMap.{len-entries}
 use Rattle.wsm_panes.specs.OfKeys.{AreOfKeys}
-use Rattle.wsm_panes.specs.Place.{is_kept}
-use Rattle.wsm_panes.proofs.Tables.{entries_kept}
+use Rattle.wsm_slots.specs.Place.{is_kept}
+use Rattle.wsm_list.proofs.Tables.{entries_kept}
 use Rattle.wsm_panes.proofs.Enters.{all_left, keys_dropped}
 use Rattle.wsm_panes.proofs.held.drop_from.Goals as goal
 

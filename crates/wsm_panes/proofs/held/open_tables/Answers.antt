@@ -2,7 +2,7 @@ use Rattle.std.proofs.Common.{rules, ◌≡◌, ℤ, ap, sym, subst, ◌∙◌, 
 use Rattle.std.specs.FinMap as map
 use Rattle.wsm_windows.specs.declared.window.Shape.TheVariants.{Fixed, Sliding, Session}
 use Rattle.wsm_panes.specs.OfKeys.{AreOfKeys}
-use Rattle.wsm_panes.proofs.Tables.{entries_none}
+use Rattle.wsm_list.proofs.Tables.{entries_none}
 use Rattle.wsm_panes.proofs.held.open_tables.Goals as goal
 
 fixed_apart : (size gap : ℤ) → ¬ (Fixed size ≡ Session gap)

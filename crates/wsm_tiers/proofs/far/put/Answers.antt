@@ -12,9 +12,10 @@ loop-tier-preserved g c =
     let here : get_or xs k d ≡ d = sym c.index_mut-in-loop-tier.ensures.value in
     let fits : k < length xs = omega (arith, c.loop-tier-test.true, c.requires.room, c.loop-tier.invariant.room, length-set c.args.tiers.now.items (c.args.at / 2048) c.squeeze-carried.new.tier) in
     record {
-      filled = filled_same c.args.len xs c.loop-tier.invariant.filled k c.pass-carried.new.tier d fits (rw here c.pass-carried.ensures.len) (rw here (omega (arith, c.pass-carried.ensures.capacity)));
+      filled = filled_same c.args.len xs c.loop-tier.invariant.filled k c.pass-carried.new.tier d fits (rw here c.pass-carried.ensures.len) (rw here c.pass-carried.ensures.capacity);
       items = rw (next_is k) (sym (passed deque_items xs k c.pass-carried.new.tier d c.loop-tier.carried c.pass-carried.result fits (rw here c.pass-carried.ensures.items))) ∙ c.loop-tier.invariant.items;
       room = length-set xs k c.pass-carried.new.tier ∙ c.loop-tier.invariant.room;
+      capacity = c.loop-tier.invariant.capacity;
     }
 
 pub returns-then-first-last-clause-items : goal.returns-then-first-last-clause-items
@@ -27,8 +28,8 @@ returns-then-first-last-clause-items g c =
     let is : 2048 * (at / 2048) + at % 2048 ≡ at = omega arith in
     let each = c.requires.filled.each (at / 2048) d fits in
     let within : at % 2048 ≤ length (deque_items (get_or xs (at / 2048) d)) = omega (arith, len_of (get_or xs (at / 2048) d), each, c.requires.at, c.if-first-last.true) in
-    rw is at (put_in deque_items 2048 xs (at / 2048) (at % 2048) c.insert.new.self d c.args.item
-    (full_before c.args.len xs c.requires.filled (at / 2048) fits (omega (arith, c.requires.at))) fits within (rw here (rw c.unwrap.ensures at c.insert.ensures.items)))
+    rw is at (put_in deque_items 2048 xs (at / 2048) (at % 2048) c.place.new.tier d c.args.item
+    (full_before c.args.len xs c.requires.filled (at / 2048) fits (omega (arith, c.requires.at))) fits within (rw here c.place.ensures.items))
 
 pub returns-after-loop-tier-clause-items : goal.returns-after-loop-tier-clause-items
 returns-after-loop-tier-clause-items g c =

@@ -1,4 +1,4 @@
-use Rattle.std.proofs.Common.{◌≡◌, ◌+◌, length}
+use Rattle.std.proofs.Common.{◌≡◌, ◌+◌, length, vec_capacity}
 use Rattle.std.specs.VecDeque.{deque_items}
 use Rattle.wsm_tiers.specs.Tiers.{AreFilled}
 use Rattle.wsm_tiers.proofs.Joined.{with_at}
@@ -9,4 +9,5 @@ invariant-loop-tier g l = record {
   filled : AreFilled l.len l.tiers.items;
   items : with_at deque_items l.tier l.carried l.tiers.items ≡ with_at deque_items (l.first + 1) l.initial.carried l.initial.tiers.items;
   room : length l.tiers.items ≡ length l.initial.tiers.items;
+  capacity : vec_capacity l.tiers ≡ vec_capacity l.initial.tiers;
 }

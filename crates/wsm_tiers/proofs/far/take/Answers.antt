@@ -27,6 +27,7 @@ loop-tier-preserved g c =
           put_back deque_items (set xs (k + 1) z) k y e c.unwrap-next.result (omega (arith, fits, long)) (rw here c.push_back_reserved.ensures.items)
           ∙ rw (← next_is k) (taken_front deque_items xs (k + 1) z d c.unwrap-next.result fits (rw next first)) ∙ c.loop-tier.invariant.items;
       room = length-set (set xs (k + 1) z) k y ∙ long ∙ c.loop-tier.invariant.room;
+      capacity = c.loop-tier.invariant.capacity;
     }
 
 pub returns-clause-item : goal.returns-clause-item

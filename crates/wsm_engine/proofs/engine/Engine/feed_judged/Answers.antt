@@ -1,9 +1,7 @@
-use Rattle.std.proofs.Common.{ap, subst, ◌∙◌}
-use Rattle.std.specs.Prelude.{IsSome}
+use Rattle.std.proofs.Common.{ap, ◌∙◌}
 use Rattle.wsm_record.specs.Event.{event_of}
 use Rattle.wsm_rules.specs.Costs.{needed}
 use Rattle.wsm_machine.proofs.Costs.{step_cost_within}
-use Rattle.wsm_engine.specs.declared.reply.Reply.{Reply}
 use Rattle.wsm_engine.specs.State.{State}
 use Rattle.wsm_engine.proofs.EngineTurns.{turn_fits, turn_writes, turn_replies, refused_turn, fired_few}
 use Rattle.wsm_engine.proofs.Within.{firings_within}
@@ -20,7 +18,7 @@ returns c =
       reply = λ past fits. took.reply ∙ turn_replies s took.lawful past fits e;
       rows = λ past fits. ap (λ (s : State). s.rows) took.state ∙ turn_writes s took.lawful past fits e;
       room = ap (λ (s : State). s.room) took.state;
-      refused = λ some. rw took.state (refused_turn s (fired_few s took.history.0 took.history.1) e (subst (λ (r : Reply). IsSome r.refusal) took.reply some));
+      refused = rw (took.state, took.reply) (refused_turn s (fired_few s took.history.0 took.history.1) e);
       record_within = rw took.reply (step_cost_within s.program (needed s.program) took.judged took.lawful s.machine e);
       pane_within = rw took.reply (firings_within s (needed s.program) took.judged took.lawful took.history.0 took.history.1 e);
     }

@@ -1,4 +1,4 @@
-use Rattle.std.proofs.Common.{◌≡◌, ◌∙◌, SFits, w64, to_z-of_z, ap, arith}
+use Rattle.std.proofs.Common.{◌∙◌, SFits, w64, to_z-of_z, ap, arith}
 use Rattle.std.proofs.lemmas.Int.{fits_signed_from_abs, ints}
 use Rattle.wsm_admission.specs.Clock.{watermark_of}
 use Rattle.wsm_machine.specs.Meaning.{query_of}

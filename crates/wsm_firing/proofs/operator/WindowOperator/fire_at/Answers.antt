@@ -25,8 +25,11 @@ returns-else-is_called c =
       tally = no_tally p c.args.tally.now _ none.firings;
     }
 
-pub fire_called-requires-clause-can : goal.fire_called-requires-clause-can
-fire_called-requires-clause-can c = let mark : SFits w64 c.args.mark = c.ranges.mark in simp to_z-of_z c.requires.can
+pub fire_called-requires : goal.fire_called-requires
+fire_called-requires c = record {
+  ready = c.requires.ready;
+  can = let mark : SFits w64 c.args.mark = c.ranges.mark in simp to_z-of_z c.requires.can;
+}
 
 pub returns-then-is_called : goal.returns-then-is_called
 returns-then-is_called c = let mark : SFits w64 c.args.mark = c.ranges.mark in simp to_z-of_z at c.fire_called.ensures

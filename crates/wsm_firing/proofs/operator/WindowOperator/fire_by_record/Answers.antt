@@ -80,3 +80,6 @@ returns c =
       room = fired.room ∙ c.retract_by_record.ensures.room;
       tally = fired.tally ∙ tally_all p fs;
     }
+
+pub fire_entered-requires-clause-can : goal.fire_entered-requires-clause-can
+fire_entered-requires-clause-can c = record { ready = c.requires.ready; can = c.retract_by_record.ensures.can }

@@ -1,4 +1,4 @@
-use Rattle.std.proofs.Common.{◌≡◌, ◌++◌, List, ap, ◌∙◌, SFits, w64, to_z-of_z}
+use Rattle.std.proofs.Common.{◌≡◌, ◌++◌, List, ap, ◌∙◌, SFits, w64, to_z-of_z, rules}
 use Rattle.wsm_record.specs.declared.cell.Cell.{Cell}
 use Rattle.wsm_windows.specs.declared.place.Place.{Place}
 use Rattle.wsm_semantics.specs.Summaries.{withdrawn_by_watermark}
@@ -26,3 +26,6 @@ returns c =
       room = c.fire_due.ensures.room ∙ c.retract_by_watermark.ensures.room;
       tally = simp to_z-of_z at c.fire_due.ensures.tally ∙ tally_all p fs;
     }
+
+pub fire_due-requires-clause-can : goal.fire_due-requires-clause-can
+fire_due-requires-clause-can c = record { ready = c.requires.ready; can = search rules }

@@ -11,7 +11,7 @@ use Rattle.wsm_semantics.specs.Firings.{kind_on_record}
 use Rattle.wsm_program.specs.Program.{Program}
 use Rattle.wsm_machine.specs.Meaning.{plan_of, query_of}
 use Rattle.wsm_panes.specs.Held.{entries_of}
-use Rattle.wsm_panes.specs.Walk.{place_found}
+use Rattle.wsm_slots.specs.Walk.{place_found}
 use Rattle.wsm_firing.specs.Tally.{tally_with}
 use Rattle.wsm_firing.specs.Firing.{CanAdd, rows_of}
 use Rattle.wsm_firing.proofs.StandingRows.{tells_none}
@@ -58,11 +58,17 @@ returns-in_default c =
       tally = no_tally p c.args.tally.now _ none.firings;
     }
 
-pub pane-pane-requires-clause-there : goal.pane-pane-requires-clause-there
-pane-pane-requires-clause-there c = held_there (goal.at.pane-pane-requires-clause-there c).In-Some
+pub pane-pane-requires : goal.pane-pane-requires
+pane-pane-requires c = record {
+  there = held_there (goal.at.pane-pane-requires c).In-Some;
+  lies = spot_in c.args.self.now.state.held c.find.result c.in-Some.spot c.find.ensures.spot c.in-Some.is;
+}
 
 pub fire_held-requires-clause-held : goal.fire_held-requires-clause-held
-fire_held-requires-clause-held c = held_there (goal.at.fire_held-requires-clause-held c).In-Some
+fire_held-requires-clause-held c = record {
+  there = held_there (goal.at.fire_held-requires-clause-held c).In-Some;
+  lies = spot_in c.args.self.now.state.held c.find.result c.in-Some.spot c.find.ensures.spot c.in-Some.is;
+}
 
 pub fire_held-requires-clause-can : goal.fire_held-requires-clause-can
 fire_held-requires-clause-can c = λ h held.
@@ -112,9 +118,3 @@ returns-in_default-record_kind c =
       room = refl;
       tally = no_tally p c.args.tally.now _ none.firings;
     }
-
-pub pane-pane-requires-clause-spot : goal.pane-pane-requires-clause-spot
-pane-pane-requires-clause-spot c = spot_in c.args.self.now.state.held c.find.result c.in-Some.spot c.find.ensures.spot c.in-Some.is
-
-pub fire_held-requires-clause-spot : goal.fire_held-requires-clause-spot
-fire_held-requires-clause-spot c = spot_in c.args.self.now.state.held c.find.result c.in-Some.spot c.find.ensures.spot c.in-Some.is

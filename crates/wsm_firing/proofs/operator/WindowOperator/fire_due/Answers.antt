@@ -10,7 +10,7 @@ use Rattle.wsm_program.specs.View.{header_of}
 use Rattle.wsm_rules.proofs.Lawful as lawful_programs
 use Rattle.wsm_machine.specs.Meaning.{plan_of, query_of}
 use Rattle.wsm_panes.specs.Held.{IsKept, IsSpot, entries_of}
-use Rattle.wsm_panes.specs.Walk.{place_found}
+use Rattle.wsm_slots.specs.Walk.{place_found}
 use Rattle.wsm_firing.specs.ByWatermark.{fires_by_watermark}
 use Rattle.wsm_firing.specs.Firing.{CanAdd}
 use Rattle.wsm_firing.specs.Due.{fired_by}
@@ -57,7 +57,7 @@ loop-init c =
     let late : ℤ = to_z w64 (of_z w64 c.last_expired-expired.result) in let expires = expires (goal.at.loop-init c).After-last_expired-expired in
     let old_fits : SFits w64 c.args.old = c.ranges.old in let new_fits : SFits w64 c.args.new = c.ranges.new in
     let all = fires_by_watermark p old new es in
-    let comes : ComesTo p room c.args.self.now.state.rows.written c.none-tally.result c.args.self.now.state.rows.written all all = simp to_z-of_z (first p room (length c.args.self.now.state.rows.written) c.none-tally.result c.args.self.now.state.rows.written _ c.none-tally.ensures refl c.requires.can) in
+    let comes : ComesTo p room c.args.self.now.state.rows.written c.none-tally.result c.args.self.now.state.rows.written all all = simp to_z-of_z (first p room (length c.args.self.now.state.rows.written) c.none-tally.result c.args.self.now.state.rows.written _ c.none-tally.ensures refl c.requires.can.can) in
     let none_passed : HasPassed p old new es c.args.self.now.state.rows.written room 0 es c.none-tally.result c.args.self.now.state.rows.written = record { fired = refl; comes = comes } in
     record {
       keeps = record { keys = refl; shape = refl; live = refl; widths = refl };
@@ -67,11 +67,11 @@ loop-init c =
       walked = walks_on late _ 0 expires (omega arith) none_passed c.first_to_fire-next.ensures.next;
     }
 
-pub pane-pane-requires-clause-there : goal.pane-pane-requires-clause-there
-pane-pane-requires-clause-there c = is_held c.loop.invariant.walked (ap place_found c.in-Some.is) (map.entries_sorted c.loop.self.state.held.panes)
-
-pub pane-pane-requires-clause-spot : goal.pane-pane-requires-clause-spot
-pane-pane-requires-clause-spot c = spot_in c.loop.self.state.held c.loop.next c.in-Some.spot c.loop.invariant.spot c.in-Some.is
+pub pane-pane-requires : goal.pane-pane-requires
+pane-pane-requires c = record {
+  there = is_held c.loop.invariant.walked (ap place_found c.in-Some.is) (map.entries_sorted c.loop.self.state.held.panes);
+  lies = spot_in c.loop.self.state.held c.loop.next c.in-Some.spot c.loop.invariant.spot c.in-Some.is;
+}
 
 pub watermark_kind-requires-clause-lateness : goal.watermark_kind-requires-clause-lateness
 watermark_kind-requires-clause-lateness c =
@@ -93,13 +93,13 @@ run-ran-requires c =
 
 pub fire-requires-clause-ready : goal.fire-requires-clause-ready
 fire-requires-clause-ready c =
-    ready_on c.args.verified.now c.args.self.now.state.held c.loop.self.state.held c.args.self.now.state.streams c.loop.self.state.streams c.loop.invariant.keeps c.loop.invariant.tells c.requires.ready
+    ready_on c.args.verified.now c.args.self.now.state.held c.loop.self.state.held c.args.self.now.state.streams c.loop.self.state.streams c.loop.invariant.keeps c.loop.invariant.tells c.requires.can.ready
 
 pub fire-requires-clause-held : goal.fire-requires-clause-held
-fire-requires-clause-held c = is_held c.loop.invariant.walked (ap place_found c.in-Some.is) (map.entries_sorted c.loop.self.state.held.panes)
-
-pub fire-requires-clause-spot : goal.fire-requires-clause-spot
-fire-requires-clause-spot c = spot_in c.loop.self.state.held c.loop.next c.in-Some.spot c.loop.invariant.spot c.in-Some.is
+fire-requires-clause-held c = record {
+  there = is_held c.loop.invariant.walked (ap place_found c.in-Some.is) (map.entries_sorted c.loop.self.state.held.panes);
+  lies = spot_in c.loop.self.state.held c.loop.next c.in-Some.spot c.loop.invariant.spot c.in-Some.is;
+}
 
 pub fire-requires-clause-run : goal.fire-requires-clause-run
 fire-requires-clause-run c = λ h found.
@@ -118,28 +118,26 @@ fire-requires-clause-can c = λ h found_here.
     let due : Pane (List Value) → _ = fired_by p.header.mode (record { kind = c.in-Some-watermark_kind.kind; spot = c.in-Some.spot }) in
     subst (λ (x : ℕ × Pane (List Value)). CanAdd p x.0 (length rows.written) c.loop.tally (due x.1 ∷ [])) (λ i. (sym c.loop.invariant.room i, same i)) can
 
-pub next_to_fire-next-requires-clause-there : goal.next_to_fire-next-requires-clause-there
-next_to_fire-next-requires-clause-there c =
-    let p = c.args.verified.now in let es = entries_of c.args.self.now.state.held in let then = c.match-watermark_kind in
-    let old : ℤ = to_z w64 (of_z w64 c.args.old) in let new : ℤ = to_z w64 (of_z w64 c.args.new) in
-    let walked = c.loop.invariant.walked in let is = ap place_found c.in-Some.is in let found = c.pane-pane.ensures in
-    let sorted = map.entries_sorted c.args.self.now.state.held.panes in let in_order = map.entries_sorted c.loop.self.state.held.panes in
-    let kind_is = kind_is (goal.at.next_to_fire-next-requires-clause-there c).After-watermark_kind in
-    let fired : entries_of then.self.state.held ≡ fired_first (plan_of p) (query_of p) (kind p old new) (walked.passed + 1) es = elim then.branch [
-      | in-Some-watermark_kind w ↦ ap (λ (o : WindowOperator). entries_of o.state.held) w.self-is ∙ (w.fire.ensures c.pane-pane.result found).panes ∙ (has_fired walked is in_order found sorted (sym kind_is ∙ w.in-Some-watermark_kind.is)).fired
-      | in_default-watermark_kind w ↦ ap (λ (o : WindowOperator). entries_of o.state.held) w.self-is ∙ (stays walked is in_order found sorted (sym kind_is ∙ w.in_default-watermark_kind.is)).fired
-    ] in
-    is_still_held walked is in_order fired (map.entries_sorted then.self.state.held.panes)
-
-pub next_to_fire-next-requires-clause-spot : goal.next_to_fire-next-requires-clause-spot
-next_to_fire-next-requires-clause-spot c =
-    let found = c.pane-pane.ensures in let then = c.match-watermark_kind in
-    let spot = c.in-Some.spot in
-    let now = spot_in c.loop.self.state.held c.loop.next spot c.loop.invariant.spot c.in-Some.is in
-    elim then.branch [
-      | in-Some-watermark_kind w ↦ subst (λ (o : WindowOperator). IsSpot o.state.held spot) (sym w.self-is) (spot_kept c.loop.self.state.held w.fire.new.self.held spot (w.fire.ensures c.pane-pane.result found).keeps now)
-      | in_default-watermark_kind w ↦ subst (λ (o : WindowOperator). IsSpot o.state.held spot) (sym w.self-is) now
-    ]
+pub next_to_fire-next-requires-clause-held : goal.next_to_fire-next-requires-clause-held
+next_to_fire-next-requires-clause-held c = record {
+  there = let p = c.args.verified.now in let es = entries_of c.args.self.now.state.held in let then = c.match-watermark_kind in
+      let old : ℤ = to_z w64 (of_z w64 c.args.old) in let new : ℤ = to_z w64 (of_z w64 c.args.new) in
+      let walked = c.loop.invariant.walked in let is = ap place_found c.in-Some.is in let found = c.pane-pane.ensures in
+      let sorted = map.entries_sorted c.args.self.now.state.held.panes in let in_order = map.entries_sorted c.loop.self.state.held.panes in
+      let kind_is = kind_is (goal.at.next_to_fire-next-requires-clause-held c).After-watermark_kind in
+      let fired : entries_of then.self.state.held ≡ fired_first (plan_of p) (query_of p) (kind p old new) (walked.passed + 1) es = elim then.branch [
+        | in-Some-watermark_kind w ↦ ap (λ (o : WindowOperator). entries_of o.state.held) w.self-is ∙ (w.fire.ensures c.pane-pane.result found).panes ∙ (has_fired walked is in_order found sorted (sym kind_is ∙ w.in-Some-watermark_kind.is)).fired
+        | in_default-watermark_kind w ↦ ap (λ (o : WindowOperator). entries_of o.state.held) w.self-is ∙ (stays walked is in_order found sorted (sym kind_is ∙ w.in_default-watermark_kind.is)).fired
+      ] in
+      is_still_held walked is in_order fired (map.entries_sorted then.self.state.held.panes);
+  lies = let found = c.pane-pane.ensures in let then = c.match-watermark_kind in
+      let spot = c.in-Some.spot in
+      let now = spot_in c.loop.self.state.held c.loop.next spot c.loop.invariant.spot c.in-Some.is in
+      elim then.branch [
+        | in-Some-watermark_kind w ↦ subst (λ (o : WindowOperator). IsSpot o.state.held spot) (sym w.self-is) (spot_kept c.loop.self.state.held w.fire.new.self.held spot (w.fire.ensures c.pane-pane.result found).keeps now)
+        | in_default-watermark_kind w ↦ subst (λ (o : WindowOperator). IsSpot o.state.held spot) (sym w.self-is) now
+      ];
+}
 
 pub loop-preserved : goal.loop-preserved
 loop-preserved c =

@@ -37,31 +37,29 @@ loop-window-init c =
       room = refl;
       comes =
           subst (λ (ws : List Window). ComesTo p room c.args.self.now.state.rows.written c.none-tally.result c.args.self.now.state.rows.written (fires q (kind_at q mark (map (at c.args.key) ws)) es) all) (sym same)
-          (simp to_z-of_z (first p room (length c.args.self.now.state.rows.written) c.none-tally.result c.args.self.now.state.rows.written _ c.none-tally.ensures refl c.requires.can));
+          (simp to_z-of_z (first p room (length c.args.self.now.state.rows.written) c.none-tally.result c.args.self.now.state.rows.written _ c.none-tally.ensures refl c.requires.can.can));
     }
 
-pub fire_at-requires-clause-ready : goal.fire_at-requires-clause-ready
-fire_at-requires-clause-ready c =
-    ready_on c.args.verified.now c.args.self.now.state.held c.loop-window.self.state.held c.args.self.now.state.streams c.loop-window.self.state.streams c.loop-window.invariant.keeps c.loop-window.invariant.tells c.requires.ready
-
-pub fire_at-requires-clause-can : goal.fire_at-requires-clause-can
-fire_at-requires-clause-can c =
-    let p = c.args.verified.now in let q = query_of p in let es = entries_of c.args.self.now.state.held in
-    let mark : ℤ = to_z w64 (of_z w64 c.args.mark) in let mark_fits : SFits w64 c.args.mark = c.ranges.mark in
-    let all : List (Fired (List Value)) = fires q (kind_at q mark (map (at c.args.key) c.args.windows)) es in
-    let room : ℕ = c.args.self.now.state.rows.room in
-    let now = entries_of c.loop-window.self.state.held in let sorted = panes.entries_sorted c.loop-window.self.state.held.panes in
-    let place : Place = at c.args.key c.in-Some.window in let ps : List Place = map (at c.args.key) c.next.new.self in
-    let order : AreInOrder (place ∷ ps) = subst (λ (ws : List Window). AreInOrder (map (at c.args.key) ws)) c.in-Some.ensures.steps c.loop-window.invariant.order in
-    let behind = later place ps order.0 in
-    let some : List (Fired (List Value)) = fires q (kind_at q mark (place ∷ [])) now in
-    let left : List (Fired (List Value)) = fires q (kind_at q mark ps) (all_fired (plan_of p) q (kind_at q mark (place ∷ [])) now) in
-    let comes : ComesTo p room c.args.self.now.state.rows.written c.loop-window.tally c.loop-window.self.state.rows.written (some ++ left) all =
-    subst (λ fs. ComesTo p room c.args.self.now.state.rows.written c.loop-window.tally c.loop-window.self.state.rows.written fs all)
-    (ap (λ (ws : List Window). fires q (kind_at q mark (map (at c.args.key) ws)) now) c.in-Some.ensures.steps ∙ fires_in_turn (plan_of p) q mark place ps behind now sorted) c.loop-window.invariant.comes in
-    let can : CanAdd p room (length c.loop-window.self.state.rows.written) c.loop-window.tally some = can_add p room c.args.self.now.state.rows.written c.loop-window.tally c.loop-window.self.state.rows.written some left all comes in
-    subst (λ (r : Place). CanAdd p c.loop-window.self.state.rows.room (length c.loop-window.self.state.rows.written) c.loop-window.tally (fires q (kind_at q mark (r ∷ [])) now)) (sym c.at-place.ensures)
-    (subst (λ (n : ℕ). CanAdd p n (length c.loop-window.self.state.rows.written) c.loop-window.tally some) (sym c.loop-window.invariant.room) can)
+pub fire_at-requires : goal.fire_at-requires
+fire_at-requires c = record {
+  ready = ready_on c.args.verified.now c.args.self.now.state.held c.loop-window.self.state.held c.args.self.now.state.streams c.loop-window.self.state.streams c.loop-window.invariant.keeps c.loop-window.invariant.tells c.requires.can.ready;
+  can = let p = c.args.verified.now in let q = query_of p in let es = entries_of c.args.self.now.state.held in
+      let mark : ℤ = to_z w64 (of_z w64 c.args.mark) in let mark_fits : SFits w64 c.args.mark = c.ranges.mark in
+      let all : List (Fired (List Value)) = fires q (kind_at q mark (map (at c.args.key) c.args.windows)) es in
+      let room : ℕ = c.args.self.now.state.rows.room in
+      let now = entries_of c.loop-window.self.state.held in let sorted = panes.entries_sorted c.loop-window.self.state.held.panes in
+      let place : Place = at c.args.key c.in-Some.window in let ps : List Place = map (at c.args.key) c.next.new.self in
+      let order : AreInOrder (place ∷ ps) = subst (λ (ws : List Window). AreInOrder (map (at c.args.key) ws)) c.in-Some.ensures.steps c.loop-window.invariant.order in
+      let behind = later place ps order.0 in
+      let some : List (Fired (List Value)) = fires q (kind_at q mark (place ∷ [])) now in
+      let left : List (Fired (List Value)) = fires q (kind_at q mark ps) (all_fired (plan_of p) q (kind_at q mark (place ∷ [])) now) in
+      let comes : ComesTo p room c.args.self.now.state.rows.written c.loop-window.tally c.loop-window.self.state.rows.written (some ++ left) all =
+      subst (λ fs. ComesTo p room c.args.self.now.state.rows.written c.loop-window.tally c.loop-window.self.state.rows.written fs all)
+      (ap (λ (ws : List Window). fires q (kind_at q mark (map (at c.args.key) ws)) now) c.in-Some.ensures.steps ∙ fires_in_turn (plan_of p) q mark place ps behind now sorted) c.loop-window.invariant.comes in
+      let can : CanAdd p room (length c.loop-window.self.state.rows.written) c.loop-window.tally some = can_add p room c.args.self.now.state.rows.written c.loop-window.tally c.loop-window.self.state.rows.written some left all comes in
+      subst (λ (r : Place). CanAdd p c.loop-window.self.state.rows.room (length c.loop-window.self.state.rows.written) c.loop-window.tally (fires q (kind_at q mark (r ∷ [])) now)) (sym c.at-place.ensures)
+      (subst (λ (n : ℕ). CanAdd p n (length c.loop-window.self.state.rows.written) c.loop-window.tally some) (sym c.loop-window.invariant.room) can);
+}
 
 pub loop-window-preserved : goal.loop-window-preserved
 loop-window-preserved c =

@@ -20,14 +20,16 @@ in_windows c =
     let mark : SFits w64 c.args.arrival.mark = search rules in let time : SFits w64 c.args.arrival.time = search rules in
     alike_in_windows c.args.verified.now c.args.arrival.mark c.args.arrival.key c.args.arrival.time c.args.alone (entries_of c.args.self.now.state.held) c.requires.entered c.windows_of_record-windows.result c.in-None.is (simp to_z-of_z at c.windows_of_record-windows.ensures.list)
 
-pub fire_at-requires-clause-can : goal.fire_at-requires-clause-can
-fire_at-requires-clause-can c =
-    let p = c.args.verified.now in
-    let mark_fits : SFits w64 c.args.arrival.mark = search rules in
-    let alike = in_session (goal.at.fire_at-requires-clause-can c).After-at-place in
-    let all = fires_by_record p c.args.arrival.mark c.args.arrival.key c.args.arrival.time (entries_of c.args.self.now.state.held) in
-    let room : ℕ = c.args.self.now.state.rows.room in let written : ℕ = length c.args.self.now.state.rows.written in
-    simp to_z-of_z (subst (λ fs. CanAdd p room written c.none-tally.result fs) (sym alike.firings) (subst (λ t. CanAdd p room written t all) (sym c.none-tally.ensures) c.requires.can))
+pub fire_at-requires : goal.fire_at-requires
+fire_at-requires c = record {
+  ready = c.requires.can.ready;
+  can = let p = c.args.verified.now in
+      let mark_fits : SFits w64 c.args.arrival.mark = search rules in
+      let alike = in_session (goal.at.fire_at-requires c).After-at-place in
+      let all = fires_by_record p c.args.arrival.mark c.args.arrival.key c.args.arrival.time (entries_of c.args.self.now.state.held) in
+      let room : ℕ = c.args.self.now.state.rows.room in let written : ℕ = length c.args.self.now.state.rows.written in
+      simp to_z-of_z (subst (λ fs. CanAdd p room written c.none-tally.result fs) (sym alike.firings) (subst (λ t. CanAdd p room written t all) (sym c.none-tally.ensures) c.requires.can.can));
+}
 
 pub returns-in-Some : goal.returns-in-Some
 returns-in-Some c =
@@ -44,10 +46,13 @@ returns-in-Some c =
     }
 
 pub fire_each-requires-clause-can : goal.fire_each-requires-clause-can
-fire_each-requires-clause-can c =
-    let mark_fits : SFits w64 c.args.arrival.mark = search rules in
-    let alike = in_windows (goal.at.fire_each-requires-clause-can c).After-windows_of_record-windows in
-    simp to_z-of_z (subst (CanAdd c.args.verified.now c.args.self.now.state.rows.room (length c.args.self.now.state.rows.written) nothing) (sym alike.firings) c.requires.can)
+fire_each-requires-clause-can c = record {
+  ready = c.requires.can.ready;
+  can =
+      let mark_fits : SFits w64 c.args.arrival.mark = search rules in
+      let alike = in_windows (goal.at.fire_each-requires-clause-can c).After-windows_of_record-windows in
+      simp to_z-of_z (subst (CanAdd c.args.verified.now c.args.self.now.state.rows.room (length c.args.self.now.state.rows.written) nothing) (sym alike.firings) c.requires.can.can);
+}
 
 pub returns-in-None : goal.returns-in-None
 returns-in-None c =

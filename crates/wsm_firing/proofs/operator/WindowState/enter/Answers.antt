@@ -1,4 +1,4 @@
-use Rattle.std.proofs.Common.{rules, ◌≡◌, ◌+◌, ◌≤◌, ℕ, length, arith, pos, [], List, ℤ, sym, ap, ◌∙◌, subst, SFits, w64, to_z, of_z, to_z-of_z}
+use Rattle.std.proofs.Common.{rules, ◌≡◌, ◌+◌, ◌≤◌, ℕ, length, arith, [], List, ℤ, sym, ap, ◌∙◌, subst, SFits, w64, to_z, of_z, to_z-of_z}
 use Rattle.wsm_record.specs.declared.event.Value.{Value}
 use Rattle.wsm_record.specs.declared.words.Mode.{Mode}
 use Rattle.wsm_semantics.specs.HeldBounds.{rows_of_panes}
@@ -7,7 +7,8 @@ use Rattle.wsm_semantics.specs.Retractions.{retracted_in}
 use Rattle.wsm_semantics.specs.Summaries.{Plan, entered, withdrawn_entering}
 use Rattle.wsm_program.specs.Program.{Program, Header}
 use Rattle.wsm_program.specs.View.{header_of}
-use Rattle.wsm_panes.specs.Held.{entries_of, taking}
+use Rattle.wsm_panes.specs.Held.{entries_of}
+use Rattle.wsm_slots.specs.Panes.{taking}
 use Rattle.wsm_firing.specs.Streams.{IsTold, standing_rows}
 use Rattle.wsm_firing.proofs.StandingRows.{Panes}
 use Rattle.wsm_firing.proofs.operator.WindowState.enter.Goals as goal

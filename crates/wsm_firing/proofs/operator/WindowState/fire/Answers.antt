@@ -7,7 +7,8 @@ use Rattle.wsm_record.specs.Modes.{retracts}
 use Rattle.wsm_windows.specs.Places.{place_cmp}
 use Rattle.wsm_program.specs.Program.{Program, Header}
 use Rattle.wsm_program.specs.View.{header_of}
-use Rattle.wsm_panes.specs.Held.{entries_of, once_fired}
+use Rattle.wsm_panes.specs.Held.{entries_of}
+use Rattle.wsm_slots.specs.Panes.{once_fired}
 use Rattle.wsm_firing.specs.Due.{row_written}
 use Rattle.wsm_firing.specs.Streams.{Tells}
 use Rattle.wsm_firing.proofs.StandingRows.{Panes, can_lose, can_gain, tells_fired}

@@ -2,8 +2,8 @@ use Rattle.std.proofs.Common.{ap, ◌∙◌, SFits, w64, to_z-of_z}
 use Rattle.std.specs.FinMap as map
 use Rattle.std.specs.FinMap.Entries.{where_key}
 use Rattle.wsm_windows.specs.Places.{place_cmp}
-use Rattle.wsm_panes.specs.Place.{is_kept}
-use Rattle.wsm_panes.proofs.Tables.{entries_kept}
+use Rattle.wsm_slots.specs.Place.{is_kept}
+use Rattle.wsm_list.proofs.Tables.{entries_kept}
 use Rattle.wsm_panes.proofs.held.HeldPanes.drop_expired.Goals as goal
 use Rattle.wsm_panes.proofs.held.HeldPanes.drop_expired.Goals.{in-Sessions, in-Grid}
 
@@ -15,7 +15,7 @@ invariant_of-self c =
           let h = rw w.in-Sessions.is at c.self.invariant.tables in
           rw w.self-inside-is (record {
             shape = c.self.invariant.shape;
-            tables = record { gap = h.gap; shape_is = h.shape_is; room = w.drop_from.ensures.room ∙ h.room; of_keys = w.drop_from.ensures.sessions h.gap c.self.inside.keys c.self.inside.live h.of_keys };
+            tables = record { gap = h.gap; shape_is = h.shape_is; room = w.drop_from.ensures.keeps.room ∙ h.room; of_keys = w.drop_from.ensures.sessions h.gap c.self.inside.keys c.self.inside.live h.of_keys };
           })
       | in-Grid w ↦
           let h = rw w.in-Grid.is at c.self.invariant.tables in

@@ -9,20 +9,21 @@ use Rattle.wsm_windows.specs.Windows.{IsShape, greatest_span, period_of, size_of
 use Rattle.wsm_windows.specs.Life.{is_live, live_windows_of}
 use Rattle.wsm_semantics.specs.Replay.{datum}
 use Rattle.wsm_semantics.specs.Summaries.{assigned}
-use Rattle.wsm_panes.specs.declared.ring.Ring.{Ring}
+use Rattle.wsm_ring.specs.declared.ring.Ring.{Ring}
 use Rattle.wsm_windows.specs.declared.window.Window.{Window}
 use Rattle.wsm_panes.specs.Entered.{IsToldAlone}
-use Rattle.wsm_panes.specs.Held.{taking}
+use Rattle.wsm_slots.specs.Panes.{taking}
 use Rattle.wsm_panes.proofs.Enters.{entered_assigned, few_values, joins_can, room_can, live_can, no_session, none_joined, windows_are, windows_can, windows_grid, wide_values, key_of, keys_written}
-use Rattle.wsm_panes.proofs.Rows.{ending_past}
+use Rattle.wsm_ring.proofs.Rows.{ending_past}
 use Rattle.wsm_panes.proofs.held.HeldPanes.enter.Goals as goal
 use Rattle.wsm_panes.proofs.held.HeldPanes.enter.Goals.{in-Sessions, in-Grid}
 
-pub enter_session-joined-requires-clause-few : goal.enter_session-joined-requires-clause-few
-enter_session-joined-requires-clause-few c = few_values _ _ _ _ _ _ _ c.requires
-
-pub enter_session-joined-requires-clause-wide : goal.enter_session-joined-requires-clause-wide
-enter_session-joined-requires-clause-wide c = wide_values _ _ _ _ _ _ _ (rw (← c.self.view_is, c.in-Sessions.is) at c.requires)
+pub enter_session-joined-requires-clause-values : goal.enter_session-joined-requires-clause-values
+enter_session-joined-requires-clause-values c = record {
+  few = few_values _ _ _ _ _ _ _ c.requires;
+  wide = wide_values _ _ _ _ _ _ _ (rw (← c.self.view_is, c.in-Sessions.is) at c.requires);
+  types = c.requires.types;
+}
 
 pub enter_session-joined-requires-clause-joins : goal.enter_session-joined-requires-clause-joins
 enter_session-joined-requires-clause-joins c =
@@ -76,8 +77,8 @@ enter_windows-windows-requires c =
     let windows = rw (live_in_ring a.shape ring.ring c.args.time c.args.lateness c.args.mark c.live_past-past.result h.grid c.self.invariant.shape (ap (λ (r : Ring). r.size) same) (ap (λ (r : Ring). r.period) same) live) at (windows_can _ _ _ _ _ _ _ can h.grid) in
     rw (z, p) (record {
       size = rw same c.self.invariant.shape.size_high;
-      time = can.timely;
-      past = c.live_past-past.ensures.time;
+      timely = can.timely;
+      marked = c.live_past-past.ensures.time;
       after = rw z at c.live_past-past.ensures.after;
       wide = wide_values _ _ _ _ _ _ _ can;
       types = can.types;
@@ -98,7 +99,7 @@ invariant_of-self c =
             tables = record {
               gap = h.gap;
               shape_is = h.shape_is;
-              room = w.enter_session-joined.ensures.room ∙ h.room;
+              room = w.enter_session-joined.ensures.keeps.room ∙ h.room;
               of_keys =
                   keys_written h.gap a.keys a.live c.args.key (map.entries w.in-Sessions.list.panes) (map.entries w.enter_session-joined.new.table.panes) w.in-Sessions.sessions.items.items w.enter_session-joined.new.sessions h.of_keys
                   (record {
@@ -118,7 +119,7 @@ invariant_of-self c =
             shape = c.self.invariant.shape;
             tables = record {
               grid = h.grid;
-              ring_is = λ roomy. w.enter_windows-windows.ensures.ring ∙ h.ring_is roomy;
+              ring_is = λ roomy. w.enter_windows-windows.ensures.enters.keeps.ring ∙ h.ring_is roomy;
               none = λ zero. absurd (omega (arith, some, zero));
             };
           })
@@ -151,7 +152,7 @@ returns-clause-panes c =
           let plan = taking c.args.kinds.now c.args.values.now in
           let d = datum 0 c.args.mark c.args.key c.args.time [] in
           rw (w.self-inside-is, ← c.self.view_is, w.in-Grid.is)
-          (rw (z, p) at w.enter_windows-windows.ensures.panes
+          (rw (z, p) at w.enter_windows-windows.ensures.enters.panes
           ∙ ap (λ ws. assigned plan d ws (map.entries ring.panes)) (sym windows)
           ∙ sym (entered_assigned plan a.shape c.args.lateness h.grid d (map.entries ring.panes)))
     ]

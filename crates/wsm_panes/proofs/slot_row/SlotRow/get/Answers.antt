@@ -1,5 +1,0 @@
-use Rattle.wsm_panes.proofs.SlotRows.{once_at}
-use Rattle.wsm_panes.proofs.slot_row.SlotRow.get.Goals as goal
-
-pub returns-clause-once : goal.returns-clause-once
-returns-clause-once c = rw (← c.self.view_is) (once_at _ _ _ c.self.invariant.0 c.args.at c.get.result c.get.ensures)

@@ -1,0 +1,12 @@
+pub mod Apart
+pub mod Clears
+pub mod DueWalk
+pub mod InTurn
+pub mod Least
+pub mod Live
+pub mod Own
+pub mod Placed
+pub mod RingWalk
+pub mod Rings
+pub mod Rows
+pub mod Scan

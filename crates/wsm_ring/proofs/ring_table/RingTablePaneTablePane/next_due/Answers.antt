@@ -1,0 +1,59 @@
+use Rattle.std.proofs.Common.{◌≡◌, ◌+◌, ◌*◌, ◌≤◌, ◌<ℤ◌, true, None, Some, SFits, w64, rules, ap, arith, ◌∙◌}
+use Rattle.std.specs.FinMap as map
+use Rattle.std.specs.FinMap.Entries.{find}
+use Rattle.std.specs.Option.{is_some}
+use Rattle.std.proofs.lemmas.Int.{ints, to_z-of_z}
+use Rattle.wsm_windows.specs.declared.place.Place.{Place}
+use Rattle.wsm_windows.specs.Places.{place_cmp}
+use Rattle.wsm_ring.specs.Ring.{at_slot, IsFirstUntil, IsLastDue, IsOfRing, IsOnGrid, row_of, slot_of, window_number}
+use Rattle.wsm_slots.specs.Walk.{following, place_due, place_found}
+use Rattle.wsm_ring.proofs.Placed.{panes_in}
+use Rattle.wsm_ring.proofs.DueWalk.{entry_at, nothing_due, next_due_walk}
+use Rattle.wsm_ring.proofs.RingWalk.{of_ring, spot_has_slot}
+use Rattle.wsm_ring.proofs.Rings.{row_within}
+use Rattle.wsm_ring.proofs.ring_table.RingTablePaneTablePane.next_due.Goals as goal
+
+pub first_on-found-requires-clause-can : goal.first_on-found-requires-clause-can
+first_on-found-requires-clause-can c =
+    let start : SFits w64 c.args.spot.place.start = search rules in
+    let there : map.contains_key (panes_in c.self.inside.slots.slots) c.args.spot.place ≡ true = ap (λ t. map.contains_key t.panes c.args.spot.place) c.self.view_is ∙ c.requires.there in
+    let of : IsOfRing c.self.inside.ring c.args.spot.place = of_ring c.self.inside.ring c.self.inside.slots.slots c.self.invariant.placed c.args.spot.place there in
+    let grid : IsOnGrid c.self.inside.ring c.args.spot.place.start = (window_number c.self.inside.ring c.args.spot.place.start, of.start) in
+    record { all = record { ring = c.self.invariant.ring; slots = c.self.invariant.slots; placed = c.self.invariant.placed }; grid = simp to_z-of_z grid; fits = search rules }
+
+pub first_on-found-requires-clause-within : goal.first_on-found-requires-clause-within
+first_on-found-requires-clause-within c =
+    let a = c.self.inside in
+    let slot : c.args.spot.at ≡ slot_of a.ring c.args.spot.place = rw (← c.self.view_is) at c.requires.spot in
+    let row : row_of a.ring c.args.spot.place.start + a.ring.keys ≤ a.ring.bound * a.ring.keys = row_within a.ring c.args.spot.place.start c.self.invariant.ring in
+    (rw c.self.invariant.slots (omega (arith, slot, row)))
+
+pub returns-in_err-last-clause-place : goal.returns-in_err-last-clause-place
+returns-in_err-last-clause-place c =
+    let a = c.self.inside in
+    let limit : SFits w64 c.args.limit = c.ranges.limit in
+    let first : SFits w64 a.first = c.self.invariant.first in
+    let none : IsLastDue a.ring a.first a.last c.args.limit None = rw c.in_err-last.was at (simp to_z-of_z at c.last_due.ensures) in
+    let past : (e : Place × _) → is_some (find place_cmp e.0 (map.entries (panes_in a.slots.slots))) ≡ true → c.args.limit <ℤ e.0.end = λ e there.
+    let at = entry_at a.ring a.slots.slots c.self.invariant.placed a.first a.last c.args.limit c.self.invariant.between e there in
+    omega (arith, ints, none e.0.start (c.self.invariant.between _ _ at.1).0, (c.self.invariant.placed _ _ at.1).0.end) in
+    ap place_found c.from_residual.ensures ∙ (nothing_due a.ring a.slots.slots c.self.invariant.placed a.first a.last c.args.limit c.self.invariant.between past).1 c.args.spot.place ∙ ap (λ t. place_due c.args.limit (following c.args.spot.place (map.entries t.panes))) c.self.view_is
+
+pub returns-clause-place : goal.returns-clause-place
+returns-clause-place c =
+    let a = c.self.inside in
+    let limit : SFits w64 c.args.limit = c.ranges.limit in
+    let first : SFits w64 a.first = c.self.invariant.first in
+    let last : SFits w64 a.last = search rules in
+    let until : SFits w64 c.in_ok-last.last = search rules in
+    let is : IsLastDue a.ring a.first a.last c.args.limit (Some c.in_ok-last.last) = rw c.in_ok-last.was at (simp to_z-of_z at c.last_due.ensures) in
+    let start : SFits w64 c.args.spot.place.start = search rules in
+    let there : map.contains_key (panes_in a.slots.slots) c.args.spot.place ≡ true = ap (λ t. map.contains_key t.panes c.args.spot.place) c.self.view_is ∙ c.requires.there in
+    let of : IsOfRing a.ring c.args.spot.place = of_ring a.ring a.slots.slots c.self.invariant.placed c.args.spot.place there in
+    let found : IsFirstUntil a.ring a.slots.slots c.args.spot.place.start (c.args.spot.place.key + 1) c.in_ok-last.last (at_slot a.slots.slots c.first_on-found.result) = (simp to_z-of_z at c.first_on-found.ensures.first) in
+    c.spot_in.ensures.place
+    ∙ next_due_walk a.ring a.slots.slots c.self.invariant.placed a.first a.last c.args.limit c.self.invariant.between c.in_ok-last.last is.0 c.args.spot.place (at_slot a.slots.slots c.first_on-found.result) of found
+    ∙ ap (λ t. place_due c.args.limit (following c.args.spot.place (map.entries t.panes))) c.self.view_is
+
+pub returns-clause-spot : goal.returns-clause-spot
+returns-clause-spot c = rw (← c.self.view_is) (spot_has_slot c.self.inside.ring c.self.inside.slots.slots c.self.invariant.placed c.first_on-found.result c.spot_in.result c.spot_in.ensures.place c.spot_in.ensures.at)

@@ -1,0 +1,4 @@
+pub mod Entering
+pub mod Ring
+pub mod RingState
+pub mod RingTable
