@@ -38,7 +38,7 @@ use Rattle.wsm_amounts.specs.Rises.{rows_written, RisesAlike}
 
 -- ---- how many there are
 
-abbrev count : {A : Type 0} → Option A → ℕ
+abbrev pub count : {A : Type 0} → Option A → ℕ
 count None = 0
 count (Some x) = 1
 
@@ -46,7 +46,7 @@ length-option : {A : Type 0} (o : Option A) (xs : List A) → length (cons_optio
 length-option None xs = omega arith
 length-option (Some x) xs = omega arith
 
-abbrev total : {A : Type 0} → (A → ℕ) → List A → ℕ
+abbrev pub total : {A : Type 0} → (A → ℕ) → List A → ℕ
 total f [] = 0
 total f (x ∷ xs) = f x + total f xs
 
@@ -79,17 +79,17 @@ length-retracted m ws =
 
 module _ (q : Query) where
   -- the row of what a pane fires, and the row that is withdrawn then
-  abbrev of_row : Place × Kept → ℕ
+  abbrev pub of_row : Place × Kept → ℕ
   of_row e = count (q.row e.0.key (firing_set q.mode e.1.all e.1.unshown))
 
-  abbrev of_retracts : Bool → Place × Kept → ℕ
+  abbrev pub of_retracts : Bool → Place × Kept → ℕ
   of_retracts b e = cond b (count (written_by q e.0 e.1.stands)) 0
 
-  abbrev writes : Bool → Place × Kept → ℕ
+  abbrev pub writes : Bool → Place × Kept → ℕ
   writes fired e = cond fired (of_retracts (retracts q.mode) e + of_row e) 0
 
   module _ (kind : Place → Kept → Option PaneKind) where
-    abbrev fires_by : Place × Kept → Bool
+    abbrev pub fires_by : Place × Kept → Bool
     fires_by e = is_some (kind e.0 e.1)
 
     count-withdrawn : (b : Bool) (es : List (Place × Kept)) → cond b (length (withdrawn_firing q kind es)) 0 ≡ total (λ e. cond (fires_by e) (of_retracts b e) 0) es
@@ -132,7 +132,7 @@ module _ (q : Query) where
     shared false r s = refl
 
     -- all rows of a turn
-    count-turn : (n : ℕ) (es : List (Place × Kept)) → length (retracted_in q.mode (withdrawn_firing q kind es) ++ filter_map (row_of q) (fires q n kind es)) ≡ total (λ e. writes (fires_by e) e) es
+    pub count-turn : (n : ℕ) (es : List (Place × Kept)) → length (retracted_in q.mode (withdrawn_firing q kind es) ++ filter_map (row_of q) (fires q n kind es)) ≡ total (λ e. writes (fires_by e) e) es
     count-turn n es =
         length-append (retracted_in q.mode (withdrawn_firing q kind es)) (filter_map (row_of q) (fires q n kind es))
         ∙ (λ i. (length-retracted q.mode (withdrawn_firing q kind es) ∙ count-withdrawn (retracts q.mode) es) i + count-rows n es i)
@@ -241,13 +241,13 @@ module _ (q : Query) (low : pos 0 ≤ℤ q.clock.lateness) where
   abbrev has_unshown : Place × Kept → Bool
   has_unshown e = nat_lt 0 (length e.1.unshown)
 
-  abbrev kind : ℤ → ℤ → Place × Kept → Option PaneKind
+  abbrev pub kind : ℤ → ℤ → Place × Kept → Option PaneKind
   kind a b e = kind_by_watermark q a b e.0 e.1
 
   fires_where : (a b : ℤ) (e : Place × Kept) → is_some (kind a b e) ≡ fires_first (due a b e) (over a b e) (has_all e) (has_unshown e)
   fires_where a b e = some_kind (due a b e && has_all e) (over a b e && has_unshown e)
 
-  abbrev written : ℤ → ℤ → Place × Kept → ℕ
+  abbrev pub written : ℤ → ℤ → Place × Kept → ℕ
   written a b e = writes q (is_some (kind a b e)) e
 
   module _ (old mid new : ℤ) (up : old ≤ℤ mid) (on : mid ≤ℤ new) where
@@ -300,7 +300,7 @@ module _ (q : Query) (low : pos 0 ≤ℤ q.clock.lateness) where
           | Some k ↦ λ is. fired e k is
         ] refl
 
-    all_panes : (es : List (Place × Kept)) → total (written old mid) es + total (written mid new) (kept_after_watermark q old mid es) ≡ total (written old new) es
+    pub all_panes : (es : List (Place × Kept)) → total (written old mid) es + total (written mid new) (kept_after_watermark q old mid es) ≡ total (written old new) es
     all_panes es =
         ap (λ (n : ℕ). total (written old mid) es + n)
         (total-filter (written mid new) (λ e. is_live_at q mid e.0) (all_fired q (kind_by_watermark q old mid) es)
@@ -332,7 +332,7 @@ module _ (q : Query) (ok : IsShape q.shape) (timely : SessionsByEvent q) (low : 
       ap (λ (f : Form). chosen_rows f (retract_rows q.mode q past w ++ pane_rows q past w) (streamed q past w)) panes_alone
       ∙ (λ i. (kept_law.retract_rows-by q ok timely low q.mode past w ∙ ap (retracted_in q.mode) (withdraws past o t)) i ++ filter_map (row_of q) (firings-watermark q low timely law past o t i))
 
-  counted : (past : List Event) (o : Option ℕ) (t : ℤ) → rows_written q past (Watermark o t) ≡ total (written q low (mark q past) (mark q (Watermark o t ∷ past))) (kept q past)
+  pub counted : (past : List Event) (o : Option ℕ) (t : ℤ) → rows_written q past (Watermark o t) ≡ total (written q low (mark q past) (mark q (Watermark o t ∷ past))) (kept q past)
   counted past o t = ap length (turn_is past o t) ∙ count-turn q (kind_by_watermark q (mark q past) (mark q (Watermark o t ∷ past))) (length past) (kept q past)
 
   pub rises_alike : RisesAlike q

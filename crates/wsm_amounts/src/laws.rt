@@ -25,19 +25,22 @@ pub fn stand_whole()
 /// session.
 pub fn amounts_add_up()
     ensures less { (q : Query) (c : ℕ) → IsShownLess q c }
-    ensures amounts { (q : Query) → IsShape q.shape → SessionsByEvent q → pos 0 ≤ℤ q.clock.lateness → q.mode ≡ Retracting → q.form ≡ Panes → (c : ℕ) (amount : Amount) → AddsAmounts q c amount → AmountsAddUp q c amount }
+    ensures amounts { (q : Query) → IsShape q.shape → SessionsByEvent q → pos 0 ≤ℤ q.clock.lateness → q.mode ≡ Retracting → q.form ≡ Panes →
+        (c : ℕ) (amount : Amount) → AddsAmounts q c amount → AmountsAddUp q c amount }
 {}
 
 /// So where each record is delivered at least once and taken when it first comes, what is shown of a span of time less what is
 /// withdrawn of it is what its records come to: each once, in whatever order they came, and however often.
 pub fn invoice()
-    ensures { (q : Query) → IsShape q.shape → SessionsByEvent q → pos 0 ≤ℤ q.clock.lateness → q.mode ≡ Retracting → q.form ≡ Panes → (c : ℕ) (amount : Amount) → AddsAmounts q c amount → Invoices q c amount }
+    ensures { (q : Query) → IsShape q.shape → SessionsByEvent q → pos 0 ≤ℤ q.clock.lateness → q.mode ≡ Retracting → q.form ≡ Panes → (c : ℕ) (amount : Amount) →
+        AddsAmounts q c amount → Invoices q c amount }
 {}
 
 /// Where panes accumulate and don't merge, the last row of a window that was dropped has in a column that adds up what all of
 /// its records come to, if HAVING is true of each firing.
 pub fn last_rows()
-    ensures { (q : Query) → IsShape q.shape → SessionsByEvent q → q.mode ≡ Accumulating → q.form ≡ Panes → WritesEach q → (c : ℕ) (amount : Amount) → AddsAmounts q c amount → LastRowsAddUp q c amount }
+    ensures { (q : Query) → IsShape q.shape → SessionsByEvent q → q.mode ≡ Accumulating → q.form ≡ Panes → WritesEach q → (c : ℕ) (amount : Amount) →
+        AddsAmounts q c amount → LastRowsAddUp q c amount }
 {}
 
 /// A rise of the watermark in one step writes as many rows of panes, retract rows too, as in two with nothing between them: a pane that

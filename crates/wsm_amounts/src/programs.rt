@@ -13,19 +13,22 @@ ghost use Rattle.wsm_amounts.specs.Rises.{RisesAlike};
 /// Where panes retract what they showed, a column that adds up comes, over all pane rows of some windows less all retract
 /// rows of them, to what the records of these windows come to, once the windows were dropped.
 pub fn amounts_add_up()
-    ensures { (p : Program) → IsTrue (is_program p) → p.header.mode ≡ Retracting → (c : ℕ) (amount : Amount) → AddsAmounts (query_of p) c amount → AmountsAddUp (query_of p) c amount }
+    ensures { (p : Program) → IsTrue (is_program p) → p.header.mode ≡ Retracting → (c : ℕ) (amount : Amount) → AddsAmounts (query_of p) c amount →
+        AmountsAddUp (query_of p) c amount }
 {}
 
 /// So where each record is delivered at least once and taken when it first comes, what is shown of a span of time less what is
 /// withdrawn of it is what its records come to.
 pub fn invoice()
-    ensures { (p : Program) → IsTrue (is_program p) → p.header.mode ≡ Retracting → (c : ℕ) (amount : Amount) → AddsAmounts (query_of p) c amount → Invoices (query_of p) c amount }
+    ensures { (p : Program) → IsTrue (is_program p) → p.header.mode ≡ Retracting → (c : ℕ) (amount : Amount) → AddsAmounts (query_of p) c amount →
+        Invoices (query_of p) c amount }
 {}
 
 /// Where panes accumulate and don't merge, the last row of a window that was dropped has in a column that adds up what all of
 /// its records come to, if HAVING is true of each firing.
 pub fn last_rows()
-    ensures { (p : Program) → IsTrue (is_program p) → p.header.mode ≡ Accumulating → p.header.form ≡ Panes → WritesEach (query_of p) → (c : ℕ) (amount : Amount) → AddsAmounts (query_of p) c amount → LastRowsAddUp (query_of p) c amount }
+    ensures { (p : Program) → IsTrue (is_program p) → p.header.mode ≡ Accumulating → p.header.form ≡ Panes → WritesEach (query_of p) →
+        (c : ℕ) (amount : Amount) → AddsAmounts (query_of p) c amount → LastRowsAddUp (query_of p) c amount }
 {}
 
 /// A rise of the watermark in one step writes as many rows of panes, retract rows too, as in two with nothing between them.

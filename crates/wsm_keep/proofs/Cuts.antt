@@ -16,6 +16,9 @@ use Rattle.wsm_keep.specs.Staying.{events_in, row_of, thinned, done_by, staying,
 use Rattle.wsm_keep.specs.Holds.{Written, Queued, read, text_of, times_in, selected_in, Holds}
 use Rattle.wsm_keep.specs.Items.{joined}
 use Rattle.wsm_keep.specs.Keeper.{says_event, AreAdded, Fits, IsCut, IsOf, IsLawfulQuery, HasSettings, takes}
+use Rattle.wsm_keep.specs.declared.begins.Begin.{Begin}
+use Rattle.wsm_keep.specs.Begins.{HasBegun, HasCounted, begins_beyond}
+use Rattle.wsm_keep.proofs.Begun.{begun_cut}
 use Rattle.wsm_keep.proofs.Items.{joined-append}
 use Rattle.wsm_keep.proofs.Thinning.{thinned_same}
 use Rattle.wsm_keep.proofs.Queues.{queue_decides, holds_cut, queue_staying, queue_selected}
@@ -59,6 +62,14 @@ module _ (q : Query) (lawful : IsLawfulQuery q) (k new : Keeper) (rows : List Wr
         texts = ap (map row_of) are ∙ queue_staying q lawful.shape older k.queue fits.queues.holds;
         selected = ap selected_in are ∙ queue_selected q lawful.shape older k.queue fits.queues.holds;
       }
+
+  -- where panes are written all events so far were queued
+  all_events : q.form ≡ Panes → events_in read rows ≡ events_in read older
+  all_events panes = ap (events_in read) fits.queues.split ∙ no_events q fits.queues.newer older (sym fits.queues.since ∙ fits.queues.alone panes)
+
+  pub cut_counts : q.form ≡ Panes → (begins : List Begin) → HasBegun q (events_in read rows) begins → HasCounted q (events_in read rows) (filter (begins_beyond x) begins)
+  cut_counts panes begins begun =
+      begun_cut q lawful.shape (events_in read rows) begins x (λ key. limits_are key ∙ ap (λ (es : List Event). dropped_times q es key) (sym (all_events panes))) begun
 
 -- behind a cut all that waits stays
 pub end_is : (q : Query) (k : Keeper) (rows : List Written) → IsCut q k rows → map row_of (k.since ++ k.queue) ≡ map text_of (staying read q rows)

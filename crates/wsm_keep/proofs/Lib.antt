@@ -11,7 +11,11 @@ pub mod OfKeys
 pub mod Natural
 pub mod Events
 pub mod OfEvents
-pub mod Silent
 pub mod NeededTaken
 pub mod SelectedRows
-pub mod AtEnds
+pub mod StayingLines
+pub mod TakenEvents
+pub mod BeyondRows
+pub mod RisesTogether
+pub mod WrittenBeyond
+pub mod Begun

@@ -1,7 +1,9 @@
 pub mod Staying
 pub mod GoesOn
-pub mod AtEnds
 pub mod Holds
 pub mod Items
 pub mod Keeper
 pub mod OfKeys
+pub mod WrittenBeyond
+pub mod Begins
+pub mod WrittenRows

@@ -1,19 +1,27 @@
 //! What is kept of the rows so far.
 
 ghost use Rattle.std.specs.Prelude.{◌≡◌, ◌∷◌, ◌++◌, ℕ, List, [], Ok, false, length, map, unwrap_or, pos, ◌-ℤ◌, ◌≤ℤ◌, IfOk, IfSome, OnOk};
+ghost use Rattle.wsm_record.specs.declared.words.Form.TheVariants.{Panes};
 ghost use Rattle.wsm_record.specs.Event.{Event as AnyEvent};
 ghost use Rattle.wsm_windows.specs.Windows.{IsShape, IsSpan};
 ghost use Rattle.wsm_semantics.specs.Query.{Query, mark};
-ghost use Rattle.wsm_keep.specs.Staying.{row_of, staying};
+ghost use Rattle.wsm_semantics.specs.FromWatermark.{dropped_times};
+ghost use Rattle.wsm_semantics.specs.LastingRows.{rows_so_far};
+ghost use Rattle.wsm_keep.specs.Staying.{events_in, row_of, staying};
 ghost use Rattle.wsm_keep.specs.Holds.{Written, read, text_of};
-ghost use Rattle.wsm_keep.specs.Keeper.{AreAdded, Fits, HasSettings, IsCut, IsLawfulQuery, IsTold, SelectsTaken, queue_at, queued_if, since_at, takes as takes_what};
+ghost use Rattle.wsm_keep.specs.Begins.{HasBegun, HasCounted, begins_of};
+ghost use Rattle.wsm_keep.specs.WrittenBeyond.{rows_beyond};
+ghost use Rattle.wsm_keep.specs.Keeper.{AreAdded, Fits, HasSettings, IsCut, IsLawfulQuery, IsTold, SelectsTaken};
+ghost use Rattle.wsm_keep.specs.Keeper.{queue_at, queued_if, since_at, takes as takes_what};
 
+use crate::begins::{Begin, add_begins, leave_beyond};
 use crate::cut::firsts_at;
 use crate::queue::Queue;
 use crate::what::What;
 use std::alloc::{AllocError, Global};
 use std::mem;
 use wsm_record::Form;
+use wsm_semantics::OutRow;
 use wsm_windows::{Shape, is_time};
 
 // How many rows are in a queue at least before it is cut.
@@ -30,6 +38,14 @@ pub struct Judged {
     pub mark: i64,
 }
 
+/// What remains of rows: those that stay, the oldest first; and how many rows were written, of those that were told, for
+/// windows that begin beyond the times up to which records go.
+#[derive(Drop)]
+pub struct Remains {
+    pub queue: Queue,
+    pub written: usize,
+}
+
 /// The rows so far that may stay: where panes are written those that do something, and for streams all events since the last
 /// rise of the watermark, behind what was queued before it.
 #[derive(Drop)]
@@ -39,6 +55,8 @@ pub struct Keeper {
     form: Form,
     queue: Queue,
     since: Queue,
+    // Of rows that were written, and told, where their windows begin: of those that may begin with records that stay.
+    begins: Vec<Begin>,
     // The watermark before the last rise, or that of now where panes are written.
     before: i64,
     // How many rows the queue may have before it is cut.
@@ -50,6 +68,7 @@ impl Keeper {
     pub fn open(alloc: Global, shape: Shape, lateness: i64, form: Form, start: i64) -> Keeper
         ensures shape { result.shape ≡ shape }
         ensures lateness { result.lateness ≡ lateness }
+        ensures begins { result.begins.items ≡ [] }
         ensures fits { (q : Query) → IsLawfulQuery q → shape ≡ q.shape → lateness ≡ q.clock.lateness → form ≡ q.form → start ≡ mark q [] → Fits q result [] }
     {
         Keeper {
@@ -58,9 +77,18 @@ impl Keeper {
             form,
             queue: Queue::new(alloc),
             since: Queue::new(alloc),
+            begins: Vec::new(alloc),
             before: start,
             most: FEW,
         }
+    }
+
+    /// Takes the rows that the turn of the next event writes, before that event, where they are counted.
+    pub fn write(&mut self, rows: &[OutRow]) -> Result<(), AllocError>
+        ensures begins { OnOk result (self.new.begins.items ≡ self.old.begins.items ++ begins_of rows.now) }
+        ensures others { self.new ≡ record self.old { begins = self.new.begins } }
+    {
+        add_begins(&mut self.begins, rows)
     }
 
     /// Whether a row may stay whose event does this. Of another one no text is asked for.
@@ -75,7 +103,9 @@ impl Keeper {
         requires { takes_what self.old.form judged.what ≡ false }
         ensures shape { self.new.shape ≡ self.old.shape }
         ensures lateness { self.new.lateness ≡ self.old.lateness }
-        ensures fits { (q : Query) (rows : List Written) (e : AnyEvent) (text : List ℕ) → IsLawfulQuery q → Fits q self.old rows → IsTold q rows e judged → Fits q self.new ((Ok e, text) ∷ rows) }
+        ensures begins { self.new.begins ≡ self.old.begins }
+        ensures fits { (q : Query) (rows : List Written) (e : AnyEvent) (text : List ℕ) → IsLawfulQuery q → Fits q self.old rows → IsTold q rows e judged →
+            Fits q self.new ((Ok e, text) ∷ rows) }
     {
         self.before = judged.mark;
     }
@@ -86,7 +116,10 @@ impl Keeper {
         requires lateness { IsSpan self.old.lateness }
         ensures shape { self.new.shape ≡ self.old.shape }
         ensures lateness { self.new.lateness ≡ self.old.lateness }
-        ensures fits { (q : Query) (rows : List Written) (e : AnyEvent) → IsLawfulQuery q → Fits q self.old rows → IsTold q rows e judged → OnOk result (Fits q self.new ((Ok e, text.now) ∷ rows)) }
+        ensures fits { (q : Query) (rows : List Written) (e : AnyEvent) → IsLawfulQuery q → Fits q self.old rows → IsTold q rows e judged →
+            OnOk result (Fits q self.new ((Ok e, text.now) ∷ rows)) }
+        ensures begun { (q : Query) (rows : List Written) (e : AnyEvent) → IsLawfulQuery q → q.form ≡ Panes → Fits q self.old rows → IsTold q rows e judged →
+            HasBegun q (e ∷ events_in read rows) self.old.begins.items → OnOk result (HasBegun q (e ∷ events_in read rows) self.new.begins.items) }
     {
         self.queue_row(judged, text)?;
         if self.most <= self.queue.len() {
@@ -99,7 +132,9 @@ impl Keeper {
     fn queue_row(&mut self, judged: Judged, text: &[u8]) -> Result<(), AllocError>
         ensures shape { self.new.shape ≡ self.old.shape }
         ensures lateness { self.new.lateness ≡ self.old.lateness }
-        ensures fits { (q : Query) (rows : List Written) (e : AnyEvent) → IsLawfulQuery q → Fits q self.old rows → IsTold q rows e judged → OnOk result (Fits q self.new ((Ok e, text.now) ∷ rows)) }
+        ensures begins { self.new.begins ≡ self.old.begins }
+        ensures fits { (q : Query) (rows : List Written) (e : AnyEvent) → IsLawfulQuery q → Fits q self.old rows → IsTold q rows e judged →
+            OnOk result (Fits q self.new ((Ok e, text.now) ∷ rows)) }
     {
         match self.form {
             Form::Panes => self.queue_for_panes(judged, text),
@@ -110,6 +145,7 @@ impl Keeper {
     // Queues a row that does something, where panes are written.
     fn queue_for_panes(&mut self, judged: Judged, text: &[u8]) -> Result<(), AllocError>
         ensures settings { HasSettings self.old self.new }
+        ensures begins { self.new.begins ≡ self.old.begins }
         ensures since { self.new.since ≡ self.old.since }
         ensures before { self.new.before ≡ judged.mark }
         ensures queue { OnOk result (self.new.queue ≡ queued_if judged.what text.now self.old.queue) }
@@ -124,6 +160,7 @@ impl Keeper {
     // Has a row wait for the next rise. At a rise all that waited are queued.
     fn queue_for_streams(&mut self, judged: Judged, text: &[u8]) -> Result<(), AllocError>
         ensures settings { HasSettings self.old self.new }
+        ensures begins { self.new.begins ≡ self.old.begins }
         ensures before { OnOk result (self.new.before ≡ unwrap_or judged.rise self.old.before) }
         ensures queue { OnOk result (self.new.queue ≡ queue_at judged.rise self.old.since self.old.queue) }
         ensures since { OnOk result (self.new.since ≡ (judged.what, text.now) ∷ since_at judged.rise self.old.since) }
@@ -145,6 +182,8 @@ impl Keeper {
         ensures lateness { self.new.lateness ≡ self.old.lateness }
         ensures since { self.new.since ≡ self.old.since }
         ensures cut { (q : Query) (rows : List Written) → IsLawfulQuery q → Fits q self.old rows → OnOk result (IsCut q self.new rows) }
+        ensures counted { (q : Query) (rows : List Written) → IsLawfulQuery q → q.form ≡ Panes → Fits q self.old rows →
+            HasBegun q (events_in read rows) self.old.begins.items → OnOk result (HasCounted q (events_in read rows) self.new.begins.items) }
     {
         let Some(expired) = expired_at(self.before, self.lateness) else {
             return Err(AllocError);
@@ -153,6 +192,7 @@ impl Keeper {
         let firsts = firsts_at(alloc, self.shape, expired, &self.queue)?;
         let queue = mem::replace(&mut self.queue, Queue::new(alloc));
         self.queue = queue.thinned(&firsts)?;
+        leave_beyond(&mut self.begins, &firsts);
         self.most = self.queue.len().saturating_mul(GROWTH).max(FEW);
         Ok(())
     }
@@ -164,7 +204,8 @@ impl Keeper {
         ensures shape { self.new.shape ≡ self.old.shape }
         ensures lateness { self.new.lateness ≡ self.old.lateness }
         ensures fits { (q : Query) (rows : List Written) → IsLawfulQuery q → Fits q self.old rows → OnOk result (Fits q self.new rows) }
-        ensures added { (q : Query) (rows : List Written) → IsLawfulQuery q → Fits q self.old rows → IfOk result (AreAdded texts.old.items texts.new.items (staying read q rows)) }
+        ensures added { (q : Query) (rows : List Written) → IsLawfulQuery q → Fits q self.old rows →
+            IfOk result (AreAdded texts.old.items texts.new.items (staying read q rows)) }
     {
         self.cut()?;
         self.queue.add_texts(texts)?;
@@ -172,21 +213,29 @@ impl Keeper {
         count_of(&self.queue, &self.since)
     }
 
-    /// The rows that stay, the oldest first.
-    pub fn finish(mut self) -> Result<Queue, AllocError>
+    /// What remains of the rows.
+    pub fn finish(mut self) -> Result<Remains, AllocError>
         requires shape { IsShape self.shape }
         requires lateness { IsSpan self.lateness }
-        ensures texts { (q : Query) (rows : List Written) → IsLawfulQuery q → Fits q self rows → IfOk result (λ kept. map row_of kept ≡ map text_of (staying read q rows)) }
-        ensures selected { (q : Query) (rows : List Written) → IsLawfulQuery q → Fits q self rows → IfOk result (SelectsTaken q rows) }
+        ensures texts { (q : Query) (rows : List Written) → IsLawfulQuery q → Fits q self rows →
+            IfOk result (λ remains. map row_of remains.queue ≡ map text_of (staying read q rows)) }
+        ensures selected { (q : Query) (rows : List Written) → IsLawfulQuery q → Fits q self rows → IfOk result (λ remains. SelectsTaken q rows remains.queue) }
+        ensures written { (q : Query) (rows : List Written) → IsLawfulQuery q → q.form ≡ Panes → Fits q self rows →
+            HasBegun q (events_in read rows) self.begins.items →
+            IfOk result (λ remains. let past = events_in read rows in remains.written ≡ length (rows_beyond (dropped_times q past) (rows_so_far q past))) }
     {
         self.cut()?;
         let Keeper {
             mut queue,
             since,
+            begins,
             ..
         } = self;
         queue.append(&since)?;
-        Ok(queue)
+        Ok(Remains {
+            queue,
+            written: begins.len(),
+        })
     }
 }
 

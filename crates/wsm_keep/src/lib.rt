@@ -2,10 +2,11 @@
 #![tactic(auto)]
 
 pub use firsts::Firsts;
-pub use keeper::{Judged, Keeper};
+pub use keeper::{Judged, Keeper, Remains};
 pub use queue::Queue;
 pub use what::What;
 
+mod begins;
 mod cut;
 mod firsts;
 mod keeper;

@@ -128,7 +128,8 @@ fn none_of_keys(alloc: Global, gap: i64, counts: &[usize]) -> Result<Vec<Session
 
 // Has the record, if it is one, enter the sessions of its key. There is room for each that was counted.
 fn place(keys: &mut Vec<Sessions>, what: What) -> Result<(), AllocError>
-    ensures { (gap : ℤ) (queue : List Queued) (text : List ℕ) → AreOfKeys gap keys.old.items queue → OnOk result (AreOfKeys gap keys.new.items ((what, text) ∷ queue)) }
+    ensures { (gap : ℤ) (queue : List Queued) (text : List ℕ) → AreOfKeys gap keys.old.items queue →
+        OnOk result (AreOfKeys gap keys.new.items ((what, text) ∷ queue)) }
 {
     let What::Selected(key, time) = what else {
         return Ok(());

@@ -6,4 +6,4 @@ pub mod RowLists
 pub mod Passed
 pub mod Asking
 pub mod Unseen
-pub mod Unwritten
+pub mod Counted

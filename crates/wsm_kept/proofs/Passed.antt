@@ -19,7 +19,6 @@ use Rattle.wsm_keep.specs.Holds.{Written, read, text_of}
 use Rattle.wsm_keep.specs.Items.{joined}
 use Rattle.wsm_keep.specs.Staying.{is_event, staying}
 use Rattle.wsm_cut.specs.declared.cutter.Cutter.{Cutter}
-use Rattle.wsm_cut.specs.Cutter as cutter
 use Rattle.wsm_cut.proofs.Passing.{fits_over}
 use Rattle.wsm_record.specs.declared.event.RowFault.{RowFault}
 use Rattle.wsm_kept.specs.declared.asked.Asked.{Asked}
@@ -30,7 +29,7 @@ use Rattle.wsm_kept.specs.declared.pass.Pass.{Pass}
 use Rattle.wsm_kept.specs.declared.run.Run.{Run}
 use Rattle.wsm_kept.specs.Head.{BeginWith, no_head}
 use Rattle.wsm_kept.specs.Kept.{Cells, counts_of, in_place, kept_rows, rows_of, written}
-use Rattle.wsm_kept.specs.Pass.{Cuts, Fits, IsLimit, IsOf, Meets, Stops, Taken, line_count}
+use Rattle.wsm_kept.specs.Pass.{Cuts, Fits, IsLimit, IsOf, Keeps, Meets, Stops, Taken, line_count}
 use Rattle.wsm_kept.specs.Run as run
 use Rattle.wsm_kept.specs.Run.{IsTurn, Tells, no_counts}
 use Rattle.wsm_kept.specs.Texts.{rows_text}
@@ -78,6 +77,9 @@ module _ (p : Program) (begun kept new : Pass) (r : Run) (is_kept : kept ≡ rec
   same_cutter : new.cutter ≡ kept.cutter
   same_cutter = ap (λ (s : Pass). s.cutter) is_new
 
+  same_counted : new.is_counted ≡ begun.is_counted
+  same_counted = ap (λ (s : Pass). s.is_counted) is_new ∙ ap (λ (s : Pass). s.is_counted) is_kept
+
   same_head : new.head ≡ begun.head
   same_head = ap (λ (s : Pass). s.head) is_new ∙ ap (λ (s : Pass). s.head) is_kept
 
@@ -88,7 +90,7 @@ module _ (p : Program) (begun kept new : Pass) (r : Run) (is_kept : kept ≡ rec
   same_asked = ap (λ (s : Pass). s.asked) is_new ∙ ap (λ (s : Pass). s.asked) is_kept
 
   -- a row that is cut
-  pub cut_more : (past : List Cells) (row : Cells) → Cuts p begun past (past ++ row ∷ []) → run.Fits p r (rows_of (query_of p) (past ++ row ∷ [])) → cutter.Fits p kept.cutter (written (query_of p) (past ++ row ∷ []))
+  pub cut_more : (past : List Cells) (row : Cells) → Cuts p begun past (past ++ row ∷ []) → run.Fits p r (rows_of (query_of p) (past ++ row ∷ [])) → Keeps p begun.is_counted kept.cutter (written (query_of p) (past ++ row ∷ []))
       → r.counts.lines ≤ begun.most → (kept.run.counts.rows ≡ kept.head.kept → kept.run.counts.lines ≡ kept.head.own) → Fits p new (past ++ row ∷ [])
   cut_more past row h rows cuts within own =
       let q : Query = query_of p in
@@ -101,7 +103,7 @@ module _ (p : Program) (begun kept new : Pass) (r : Run) (is_kept : kept ≡ rec
         cuts = record {
           program = ap (λ (s : Run). s.engine.program) same_run ∙ rows.engine.program;
           counts = counts;
-          cutter = subst (λ (c : Cutter). cutter.Fits p c (written q all)) (sym same_cutter) cuts;
+          cutter = subst (λ (c : Cutter). Keeps p new.is_counted c (written q all)) (sym same_cutter) (subst (λ (b : Bool). Keeps p b kept.cutter (written q all)) (sym same_counted) cuts);
           head = subst (BeginWith all) (sym same_head) h.head;
           of = subst (λ (old : Head). IsOf new.asked.sum old) (sym same_head) (subst (λ (a : Asked). IsOf a.sum begun.head) (sym same_asked) h.of);
           meets = subst (λ (old : Head). Meets q old all) (sym same_head) (meets_more q begun.head past row r.counts h.meets rows.counts by);
@@ -135,24 +137,24 @@ goes_on p new past row (Ok true) e fits = fits
 goes_on p new past row (Ok false) e fits = absurd (true_false (sym e))
 goes_on p new past row (Err end) e fits = tt
 
-pub kept_event : (p : Program) (c : Cutter) (past : List Cells) (row : Cells) (e : Event) (text : List ℕ) → event_of_cells p.header.schema row ≡ Ok e → text ≡ row_text default_writer row
-    → cutter.Fits p c ((Ok e, text) ∷ written (query_of p) past) → cutter.Fits p c (written (query_of p) (past ++ row ∷ []))
-kept_event p c past row e text is same h =
-    subst (cutter.Fits p c) (sym (written-more (query_of p) past row))
-    (subst (λ (w : Written). cutter.Fits p c (w ∷ written (query_of p) past)) (λ i. (sym is i, same i)) h)
+pub kept_event : (P : List Written → Type 0) (p : Program) (past : List Cells) (row : Cells) (e : Event) (text : List ℕ) → event_of_cells p.header.schema row ≡ Ok e → text ≡ row_text default_writer row
+    → P ((Ok e, text) ∷ written (query_of p) past) → P (written (query_of p) (past ++ row ∷ []))
+kept_event P p past row e text is same h =
+    subst P (sym (written-more (query_of p) past row))
+    (subst (λ (w : Written). P (w ∷ written (query_of p) past)) (λ i. (sym is i, same i)) h)
 
 no_event : (r : Row) → is_event r ≡ false → (why : RowFault) × (r ≡ Err why)
 no_event (Err why) e = (why, refl)
 no_event (Ok event) e = absurd (true_false e)
 
-pub kept_other : (p : Program) (c : Cutter) (past : List Cells) (row : Cells) → is_event (event_of_cells p.header.schema row) ≡ false
-    → cutter.Fits p c (written (query_of p) past) → cutter.Fits p c (written (query_of p) (past ++ row ∷ []))
-kept_other p c past row e h =
+pub kept_other : (p : Program) (b : Bool) (c : Cutter) (past : List Cells) (row : Cells) → is_event (event_of_cells p.header.schema row) ≡ false
+    → Keeps p b c (written (query_of p) past) → Keeps p b c (written (query_of p) (past ++ row ∷ []))
+kept_other p b c past row e h =
     let text : List ℕ = row_text default_writer row in
     let before : List Written = written (query_of p) past in
     let (why, is) = no_event (event_of_cells p.header.schema row) e in
-    subst (cutter.Fits p c) (sym (written-more (query_of p) past row))
-    (subst (λ (r : Row). cutter.Fits p c ((r, text) ∷ before)) (sym is) (fits_over p c before why text h))
+    subst (Keeps p b c) (sym (written-more (query_of p) past row))
+    (subst (λ (r : Row). Keeps p b c ((r, text) ∷ before)) (sym is) (record { fits = fits_over p c before why text h.fits; by = h.by; begun = h.begun }))
 
 -- what is told of a row
 pub told_some : (q : Query) (before : List Written) (row : Row) (told : Option Judged) (judged : Judged) → told ≡ Some judged → Tells q before row told → IsTurn q before row judged
@@ -165,7 +167,7 @@ no_lines : (lines most : ℕ) → lines ≡ 0 → lines ≤ most
 no_lines lines most e = omega (arith, e)
 
 -- before the first row
-pub fits_none : (p : Program) (pass : Pass) → run.Fits p pass.run [] → pass.counts ≡ no_counts → pass.head ≡ no_head → IsLimit pass.asked.taken pass.head pass.most → cutter.Fits p pass.cutter [] → Fits p pass []
+pub fits_none : (p : Program) (pass : Pass) → run.Fits p pass.run [] → pass.counts ≡ no_counts → pass.head ≡ no_head → IsLimit pass.asked.taken pass.head pass.most → Keeps p pass.is_counted pass.cutter [] → Fits p pass []
 fits_none p pass rows counts head limit cutter = record {
   run = rows;
   cuts = record {

@@ -8,7 +8,13 @@ use Rattle.wsm_program.specs.Program.{Program}
 use Rattle.wsm_machine.specs.Meaning.{query_of}
 use Rattle.wsm_csv.specs.Rows.{cells_of}
 use Rattle.wsm_csv.specs.declared.rows.Rows.{Rows}
+use Rattle.wsm_record.specs.Event.{Event}
+use Rattle.wsm_keep.specs.Begins.{HasBegun}
+use Rattle.wsm_keep.specs.Holds.{Written, read}
+use Rattle.wsm_keep.specs.Staying.{events_in}
+use Rattle.wsm_cut.specs.declared.cutter.Cutter.{Cutter}
 use Rattle.wsm_cut.specs.Cutter as cutter
+use Rattle.wsm_kept.specs.Own.{writes_sessions}
 use Rattle.wsm_kept.specs.declared.asked.Asked.{Asked}
 use Rattle.wsm_kept.specs.declared.cut.Cut.{Cut}
 use Rattle.wsm_kept.specs.declared.head.Head.{Head}
@@ -37,12 +43,24 @@ IsLimit (Some taken) head most = (head.lines ≤ taken) × (most ≡ counter ((t
 
 -- ---- the rows so far
 
+-- a cutter has what is kept of rows, and where they are counted of those that were written for them
+pub record Keeps (p : Program) (is_counted : Bool) (c : Cutter) (rows : List Written) : Type 0 where
+  pub fits : cutter.Fits p c rows
+  pub by : is_counted ≡ writes_sessions p.header
+  pub begun : is_counted ≡ true → HasBegun (query_of p) (events_in read rows) c.keeper.begins.items
+
+-- and of those that the next event writes
+pub record KeepsWritten (p : Program) (is_counted : Bool) (c : Cutter) (rows : List Written) (e : Event) : Type 0 where
+  pub fits : cutter.Fits p c rows
+  pub by : is_counted ≡ writes_sessions p.header
+  pub begun : is_counted ≡ true → HasBegun (query_of p) (e ∷ events_in read rows) c.keeper.begins.items
+
 -- these rows are cut, where these were read
-pub record Cuts (p : Program) (pass : Pass) (past read : List Cells) : Type 0 where
+pub record Cuts (p : Program) (pass : Pass) (past all : List Cells) : Type 0 where
   pub program : pass.run.engine.program ≡ p
   pub counts : pass.counts ≡ counts_of (query_of p) (rows_of (query_of p) past)
-  pub cutter : cutter.Fits p pass.cutter (written (query_of p) past)
-  pub head : BeginWith read pass.head
+  pub cutter : Keeps p pass.is_counted pass.cutter (written (query_of p) past)
+  pub head : BeginWith all pass.head
   pub of : IsOf pass.asked.sum pass.head
   pub meets : Meets (query_of p) pass.head past
   pub limit : IsLimit pass.asked.taken pass.head pass.most

@@ -2,7 +2,9 @@
 use Rattle.std.specs.Prelude.{◌≡◌, ℕ, false, List, Option, Ok, MatchOption}
 use Rattle.wsm_record.specs.Event.{Event}
 use Rattle.wsm_admission.specs.Clock.{admitted_count}
+use Rattle.wsm_semantics.specs.declared.out_row.OutRow.{OutRow}
 use Rattle.wsm_semantics.specs.Query.{Query}
+use Rattle.wsm_semantics.specs.Relation.{turn_rows}
 use Rattle.wsm_semantics.specs.Lines.{Row, events}
 use Rattle.wsm_program.specs.Program.{Program}
 use Rattle.wsm_machine.specs.Meaning.{query_of}
@@ -42,3 +44,7 @@ pub record IsTurn (q : Query) (before : List Written) (row : Row) (judged : Judg
 -- of a row that is no event nothing is told
 abbrev pub Tells : Query → List Written → Row → Option Judged → Type 0
 Tells q before row told = MatchOption told (is_event row ≡ false) (IsTurn q before row)
+
+-- these are the rows of the turn of a row behind events, if it is an event
+abbrev pub HasRows : Query → List Event → Row → List OutRow → Type 0
+HasRows q past row rows = (e : Event) → row ≡ Ok e → rows ≡ turn_rows q past e

@@ -16,8 +16,9 @@ use std::io::Read;
 use wsm_csv::Rows;
 use wsm_rules::Verified;
 
-/// Cuts rows of which none was read. Each row is read once; a second run is over those that stay. Where not all are cut, the row that was read last is the first behind them: [`write_cut`] writes it and
-/// those behind it.
+/// Cuts rows of which none was read. Each row is read once. A second run is over those that stay, but of sessions that
+/// withdraw nothing, whose lines are counted as they are written. Where not all are cut, the row that was read last is the
+/// first behind them: [`write_cut`] writes it and those behind it.
 ///
 /// [`write_cut`]: crate::write_cut
 ///
@@ -31,7 +32,8 @@ pub fn cut_rows<R: Read + Drop>(
     asked: Asked,
     rows: &mut Rows<R>,
 ) -> Result<Cut, KeepEnd>
-    ensures { (known : Option (List ℕ)) → Follows R.remaining known [] rows.old → IfOk result (IsAskedCut R.remaining known (query_of verified) asked rows.new) }
+    ensures { (known : Option (List ℕ)) → Follows R.remaining known [] rows.old →
+        IfOk result (IsAskedCut R.remaining known (query_of verified) asked rows.new) }
 {
     let mut pass = Pass::open(alloc, verified, asked)?;
     let at_end = take_rows(alloc, &mut pass, rows)?;
@@ -47,7 +49,8 @@ fn take_rows<R: Read + Drop>(
     requires { IsReady pass.old.cutter }
     ensures asked { pass.new.asked ≡ pass.old.asked }
     ensures ready { IsReady pass.new.cutter }
-    ensures passes { (known : Option (List ℕ)) (p : Program) → Follows R.remaining known [] rows.old → Fits p pass.old [] → IfOk result (Passes R.remaining known p pass.new rows.new) }
+    ensures passes { (known : Option (List ℕ)) (p : Program) → Follows R.remaining known [] rows.old → Fits p pass.old [] →
+        IfOk result (Passes R.remaining known p pass.new rows.new) }
 {
     while rows.advance()? {
         if !pass.take(alloc, rows.row())? {

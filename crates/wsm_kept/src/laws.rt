@@ -24,14 +24,16 @@ pub fn goes_on()
 /// those behind. A run over it writes as many lines for the first two as the head says, and for whatever rows come behind
 /// these the bytes that one over all rows writes, but that row numbers are less by how many rows are fewer.
 pub fn is_unseen()
-    ensures { (p : Program) → IsTrue (is_program p) → (sum : ℕ) → sum ≤ 18446744073709551615 → (old : Head) (past : List Cells) → IsUnseen (query_of p) sum old past }
+    ensures { (p : Program) → IsTrue (is_program p) → (sum : ℕ) → sum ≤ 18446744073709551615 → (old : Head) (past : List Cells) →
+        IsUnseen (query_of p) sum old past }
 {
     goes_on();
 }
 
 /// Rows that are cut again, with more behind them, come to as many rows and lines as all of them cut once.
 pub fn adds_up()
-    ensures { (p : Program) → IsTrue (is_program p) → (sum : ℕ) (old : Head) (past more : List Cells) → let q = query_of p in let cut = cut_cells q sum old past in
+    ensures { (p : Program) → IsTrue (is_program p) → (sum : ℕ) (old : Head) (past more : List Cells) →
+        let q = query_of p in let cut = cut_cells q sum old past in
         HasRoomFor q q.clock.records past cut more → IsCounted q old past cut more → AddsUp q sum old past more }
 {
     goes_on();

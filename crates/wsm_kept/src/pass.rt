@@ -13,6 +13,7 @@ use crate::counts::Counts;
 use crate::cut::Cut;
 use crate::end::KeepEnd;
 use crate::head::Head;
+use crate::own::writes_sessions;
 use crate::row_text::put_text;
 use crate::run::Run;
 use crate::stay::{Stay, stay_of};
@@ -27,6 +28,8 @@ pub struct Pass {
     // A run over the rows that are cut, and over the next one, where that isn't.
     run: Run,
     cutter: Cutter,
+    // Whether the cutter is told of the rows that are written.
+    is_counted: bool,
     // The text of the row that was kept last.
     text: Vec<u8>,
     // What a run over the rows that are cut comes to.
@@ -43,6 +46,7 @@ impl Drop for Pass {
         let Pass {
             run: _,
             cutter: _,
+            is_counted: _,
             text: _,
             counts: _,
             head: _,
@@ -60,8 +64,12 @@ impl Pass {
     ghost use Rattle.wsm_csv.specs.Cells.{event_of_cells};
     ghost use Rattle.wsm_cut.specs.Cutter as cutter;
     ghost use Rattle.wsm_kept.specs.Kept.{Cells, written};
-    ghost use Rattle.wsm_kept.specs.Pass.{Cuts, Fits, IsCutAs, Taken};
-    ghost use Rattle.wsm_kept.specs.Run.{IsTurn, Tells};
+    ghost use Rattle.wsm_record.specs.Event.{Event as AnyEvent};
+    ghost use Rattle.wsm_semantics.specs.Relation.{turn_rows};
+    ghost use Rattle.wsm_keep.specs.Holds.{Written, read};
+    ghost use Rattle.wsm_keep.specs.Staying.{events_in};
+    ghost use Rattle.wsm_kept.specs.Pass.{Cuts, Fits, IsCutAs, Keeps, KeepsWritten, Taken};
+    ghost use Rattle.wsm_kept.specs.Run.{HasRows, IsTurn, Tells};
 
     /// Before the first row.
     pub fn open(alloc: Global, verified: Verified, asked: Asked) -> Result<Pass, KeepEnd>
@@ -71,11 +79,13 @@ impl Pass {
     {
         let head = Head::none();
         let most = most_of(asked.taken, &head)?;
+        let is_counted = writes_sessions(&verified);
         let run = Run::open(alloc, verified)?;
         let cutter = run.cutter(alloc);
         Ok(Pass {
             run,
             cutter,
+            is_counted,
             text: Vec::new(alloc),
             counts: Counts::none(),
             head,
@@ -105,6 +115,7 @@ impl Pass {
         ensures asked { self.new.asked ≡ self.old.asked }
         ensures run { self.new.run ≡ self.old.run }
         ensures cutter { self.new.cutter ≡ self.old.cutter }
+        ensures counted { self.new.is_counted ≡ self.old.is_counted }
         ensures begun { (p : Program) (past : List Cells) → Fits p self.old past → OnOk result (Cuts p self.new past (past ++ fields_of row.now ∷ [])) }
     {
         if self.counts.rows == 0 {
@@ -117,7 +128,8 @@ impl Pass {
 
     // Ends the pass. The rows that the first one speaks of were there.
     fn stop(&self) -> Result<bool, KeepEnd>
-        ensures { (p : Program) (past : List Cells) (row : Cells) → Cuts p self.now past (past ++ row ∷ []) → IfOk result (λ is_cut. (is_cut ≡ false) × Cuts p self.now past past) }
+        ensures { (p : Program) (past : List Cells) (row : Cells) → Cuts p self.now past (past ++ row ∷ []) →
+            IfOk result (λ is_cut. (is_cut ≡ false) × Cuts p self.now past past) }
     {
         if self.counts.rows < self.head.kept {
             return Err(KeepEnd::OtherRows);
@@ -129,8 +141,10 @@ impl Pass {
     fn keep(&mut self, row: &ByteRecord, told: Option<Judged>) -> Result<(), KeepEnd>
         requires { cutter.IsReady self.old.cutter }
         ensures ready { cutter.IsReady self.new.cutter }
-        ensures cutter { (p : Program) (past : List Cells) → Tells (query_of p) (written (query_of p) past) (event_of_cells p.header.schema (fields_of row.now)) told
-            → cutter.Fits p self.old.cutter (written (query_of p) past) → OnOk result (cutter.Fits p self.new.cutter (written (query_of p) (past ++ fields_of row.now ∷ []))) }
+        ensures cutter { (p : Program) (past : List Cells) →
+            let q = query_of p in let before = written q past in let next = event_of_cells p.header.schema (fields_of row.now) in
+            Tells q before next told → HasRows q (events_in read before) next self.old.run.engine.rows → Keeps p self.old.is_counted self.old.cutter before →
+            OnOk result (Keeps p self.old.is_counted self.new.cutter (written q (past ++ fields_of row.now ∷ []))) }
         ensures others { self.new ≡ record self.old { cutter = self.new.cutter; text = self.new.text } }
     {
         match told {
@@ -143,16 +157,33 @@ impl Pass {
     fn keep_event(&mut self, row: &ByteRecord, judged: Judged) -> Result<(), KeepEnd>
         requires { cutter.IsReady self.old.cutter }
         ensures ready { cutter.IsReady self.new.cutter }
-        ensures cutter { (p : Program) (past : List Cells) → IsTurn (query_of p) (written (query_of p) past) (event_of_cells p.header.schema (fields_of row.now)) judged
-            → cutter.Fits p self.old.cutter (written (query_of p) past) → OnOk result (cutter.Fits p self.new.cutter (written (query_of p) (past ++ fields_of row.now ∷ []))) }
+        ensures cutter { (p : Program) (past : List Cells) →
+            let q = query_of p in let before = written q past in let next = event_of_cells p.header.schema (fields_of row.now) in
+            IsTurn q before next judged → HasRows q (events_in read before) next self.old.run.engine.rows → Keeps p self.old.is_counted self.old.cutter before →
+            OnOk result (Keeps p self.old.is_counted self.new.cutter (written q (past ++ fields_of row.now ∷ []))) }
         ensures others { self.new ≡ record self.old { cutter = self.new.cutter; text = self.new.text } }
     {
+        self.tell_rows()?;
         if !self.cutter.takes(judged.what) {
             self.cutter.pass_over(judged);
             return Ok(());
         }
         put_text(row, &mut self.text)?;
         self.cutter.take(judged, &self.text)?;
+        Ok(())
+    }
+
+    // Tells the cutter of the rows that the last turn wrote, where they are counted.
+    fn tell_rows(&mut self) -> Result<(), KeepEnd>
+        requires { cutter.IsReady self.old.cutter }
+        ensures ready { cutter.IsReady self.new.cutter }
+        ensures told { (p : Program) (before : List Written) (e : AnyEvent) → self.old.run.engine.rows ≡ turn_rows (query_of p) (events_in read before) e →
+            Keeps p self.old.is_counted self.old.cutter before → OnOk result (KeepsWritten p self.old.is_counted self.new.cutter before e) }
+        ensures others { self.new ≡ record self.old { cutter = self.new.cutter } }
+    {
+        if self.is_counted {
+            self.cutter.write(self.run.rows())?;
+        }
         Ok(())
     }
 
@@ -172,11 +203,12 @@ impl Pass {
     /// What stands in the place of the rows that are cut.
     pub fn finish(self, alloc: Global, at_end: bool) -> Result<Cut, KeepEnd>
         requires { cutter.IsReady self.cutter }
-        ensures { (p : Program) (past read : List Cells) → Cuts p self past read → IfOk result (IsCutAs (query_of p) self.asked self.head past at_end) }
+        ensures { (p : Program) (past all : List Cells) → Cuts p self past all → IfOk result (IsCutAs (query_of p) self.asked self.head past at_end) }
     {
         let Pass {
             run,
             cutter,
+            is_counted: _,
             text: _,
             counts,
             head,

@@ -12,6 +12,7 @@ use wsm_cut::{Cutter, judge_event};
 use wsm_engine::Engine;
 use wsm_keep::Judged;
 use wsm_rules::Verified;
+use wsm_semantics::OutRow;
 
 /// What the turns so far come to, of which no line is written.
 pub struct Run {
@@ -36,7 +37,8 @@ impl Run {
     ghost use Rattle.wsm_record.specs.Event.{Event as AnyEvent};
     ghost use Rattle.wsm_admission.specs.Admission.{counter};
     ghost use Rattle.wsm_admission.specs.Clock.{fits_declared};
-    ghost use Rattle.wsm_semantics.specs.Lines.{Row};
+    ghost use Rattle.wsm_semantics.specs.Lines.{Row, events};
+    ghost use Rattle.wsm_semantics.specs.Relation.{turn_rows};
     ghost use Rattle.wsm_program.specs.Program.{Program};
     ghost use Rattle.wsm_machine.specs.Meaning.{query_of};
     ghost use Rattle.wsm_keep.specs.Holds.{Written, read};
@@ -44,7 +46,7 @@ impl Run {
     ghost use Rattle.wsm_cut.specs.Cutter as cutter;
     ghost use Rattle.wsm_csv.specs.Cells.{event_of_cells};
     ghost use Rattle.wsm_csv.specs.EventReader.{event_read, fits_read};
-    ghost use Rattle.wsm_kept.specs.Run.{EngineFits, Fits, Tells, admitted_by};
+    ghost use Rattle.wsm_kept.specs.Run.{EngineFits, Fits, HasRows, Tells, admitted_by};
 
     /// Before the first row.
     pub fn open(alloc: Global, verified: Verified) -> Result<Run, AllocError>
@@ -64,6 +66,7 @@ impl Run {
     /// What is kept of the rows of its program, before the first.
     pub fn cutter(&self, alloc: Global) -> Cutter
         ensures ready { cutter.IsReady result }
+        ensures begins { result.keeper.begins.items ≡ [] }
         ensures fits { (p : Program) → Fits p self.now [] → cutter.Fits p result [] }
     {
         Cutter::open(alloc, self.engine.program(), self.engine.mark())
@@ -72,8 +75,12 @@ impl Run {
     /// Takes the turn of a row, and tells what its event does, if it is one.
     pub fn take(&mut self, row: &ByteRecord) -> Result<Option<Judged>, AllocError>
         ensures program { self.new.engine.program ≡ self.old.engine.program }
-        ensures fits { (p : Program) (before : List Row) → Fits p self.old before → OnOk result (Fits p self.new (event_of_cells p.header.schema (fields_of row.now) ∷ before)) }
-        ensures told { (p : Program) (before : List Written) → Fits p self.old (map read before) → IfOk result (Tells (query_of p) before (event_of_cells p.header.schema (fields_of row.now))) }
+        ensures fits { (p : Program) (before : List Row) → Fits p self.old before →
+            OnOk result (Fits p self.new (event_of_cells p.header.schema (fields_of row.now) ∷ before)) }
+        ensures told { (p : Program) (before : List Written) → Fits p self.old (map read before) →
+            IfOk result (Tells (query_of p) before (event_of_cells p.header.schema (fields_of row.now))) }
+        ensures rows { (p : Program) (before : List Row) → Fits p self.old before →
+            OnOk result (HasRows (query_of p) (events before) (event_of_cells p.header.schema (fields_of row.now)) self.new.engine.rows) }
     {
         match self.events.read(self.engine.schema(), row) {
             Ok(()) => Ok(Some(self.feed())),
@@ -90,7 +97,10 @@ impl Run {
         requires { fits_read self.old.events ≡ fits_declared self.old.engine.program.header.schema (event_read self.old.events) }
         ensures program { self.new.engine.program ≡ self.old.engine.program }
         ensures fits { (p : Program) (before : List Row) → Fits p self.old before → Fits p self.new (Ok (event_read self.old.events) ∷ before) }
-        ensures told { (p : Program) (before : List Written) → Fits p self.old (map read before) → IsTold (query_of p) before (event_read self.old.events) result }
+        ensures told { (p : Program) (before : List Written) → Fits p self.old (map read before) →
+            IsTold (query_of p) before (event_read self.old.events) result }
+        ensures rows { (p : Program) (before : List Row) → Fits p self.old before →
+            self.new.engine.rows ≡ turn_rows (query_of p) (events before) (event_read self.old.events) }
     {
         let before = self.engine.mark();
         let values_fit = self.events.values_fit();
@@ -115,6 +125,13 @@ impl Run {
             lines: self.counts.lines.saturating_add(lines),
             admitted: self.engine.totals().admitted,
         };
+    }
+
+    /// The rows that the last turn of an event wrote.
+    pub fn rows(&self) -> &[OutRow]
+        ensures { result.now ≡ self.now.engine.rows }
+    {
+        self.engine.rows()
     }
 
     /// What the rows so far come to.

@@ -4,8 +4,10 @@ ghost use Rattle.std.specs.Prelude.{◌≡◌, ◌++◌, List, codes, map, IfOk}
 ghost use Rattle.wsm_machine.specs.Meaning.{query_of};
 ghost use Rattle.wsm_keep.specs.Items.{joined};
 ghost use Rattle.wsm_keep.specs.Staying.{row_of};
-ghost use Rattle.wsm_cut.specs.Cutter.{Fits, IsReady};
+ghost use Rattle.wsm_cut.specs.Cutter.{IsReady};
 ghost use Rattle.wsm_kept.specs.Kept.{Cells, written};
+ghost use Rattle.wsm_kept.specs.Own.{writes_sessions};
+ghost use Rattle.wsm_kept.specs.Pass.{Keeps};
 ghost use Rattle.wsm_kept.specs.Stay.{IsStay};
 
 use crate::counts::Counts;
@@ -51,12 +53,13 @@ impl Stay {
 /// The rows that a program's cutter says stay.
 pub fn stay_of(alloc: Global, verified: Verified, cutter: Cutter) -> Result<Stay, KeepEnd>
     requires { IsReady cutter }
-    ensures { (past : List Cells) → Fits verified cutter (written (query_of verified) past) → IfOk result (IsStay (query_of verified) past) }
+    ensures { (past : List Cells) → Keeps verified (writes_sessions verified.header) cutter (written (query_of verified) past) →
+        IfOk result (IsStay (query_of verified) past) }
 {
-    let queue = cutter.finish()?;
-    let text = text_of(alloc, &queue)?;
+    let remains = cutter.finish()?;
+    let text = text_of(alloc, &remains.queue)?;
     let records = verified.program().header().clock.records.unsigned_abs();
-    let own = own_counts(alloc, verified, queue, &text)?;
+    let own = own_counts(alloc, verified, remains, &text)?;
     Ok(Stay { text, own, records })
 }
 

@@ -30,8 +30,10 @@ pub fn write_cut<R: Read + Drop, D: Device>(
     out: &mut D,
 ) -> Result<(), KeepEnd>
     requires { D.has_failed out.old ≡ false }
-    ensures written { (known : Option (List ℕ)) (q : Query) (sum : ℕ) → IsCut R.remaining known q sum rows.old cut.now → OnOk result (IsWritten known q sum (D.taken out.old) (D.taken out.new)) }
-    ensures begun { (known : Option (List ℕ)) (q : Query) (sum : ℕ) → IsCut R.remaining known q sum rows.old cut.now → OnErr result (IsBegun known q sum (D.taken out.old) (D.taken out.new)) }
+    ensures written { (known : Option (List ℕ)) (q : Query) (sum : ℕ) → IsCut R.remaining known q sum rows.old cut.now →
+        OnOk result (IsWritten known q sum (D.taken out.old) (D.taken out.new)) }
+    ensures begun { (known : Option (List ℕ)) (q : Query) (sum : ℕ) → IsCut R.remaining known q sum rows.old cut.now →
+        OnErr result (IsBegun known q sum (D.taken out.old) (D.taken out.new)) }
     ensures flushed { OnOk result (D.is_flushed out.new ≡ true) }
 {
     write_out(out, &cut.text)?;
@@ -47,8 +49,10 @@ fn write_rest<R: Read + Drop, D: Device>(
     out: &mut D,
 ) -> Result<(), KeepEnd>
     requires { D.has_failed out.old ≡ false }
-    ensures written { (known : Option (List ℕ)) (past : List Cells) → AreRead R.remaining known past rows.old at_end → OnOk result (Follow known past (D.taken out.old) (D.taken out.new)) }
-    ensures begun { (known : Option (List ℕ)) (past : List Cells) → AreRead R.remaining known past rows.old at_end → OnErr result (FollowInPart known past (D.taken out.old) (D.taken out.new)) }
+    ensures written { (known : Option (List ℕ)) (past : List Cells) → AreRead R.remaining known past rows.old at_end →
+        OnOk result (Follow known past (D.taken out.old) (D.taken out.new)) }
+    ensures begun { (known : Option (List ℕ)) (past : List Cells) → AreRead R.remaining known past rows.old at_end →
+        OnErr result (FollowInPart known past (D.taken out.old) (D.taken out.new)) }
     ensures works { OnOk result (D.has_failed out.new ≡ false) }
 {
     if at_end {
@@ -65,8 +69,10 @@ fn write_behind<R: Read + Drop, D: Device>(
     out: &mut D,
 ) -> Result<(), KeepEnd>
     requires { D.has_failed out.old ≡ false }
-    ensures written { (known : Option (List ℕ)) (past : List Cells) → Follows R.remaining known (past ++ cells_of rows.old ∷ []) rows.old → OnOk result (Follow known past (D.taken out.old) (D.taken out.new)) }
-    ensures begun { (known : Option (List ℕ)) (past : List Cells) → Follows R.remaining known (past ++ cells_of rows.old ∷ []) rows.old → OnErr result (FollowInPart known past (D.taken out.old) (D.taken out.new)) }
+    ensures written { (known : Option (List ℕ)) (past : List Cells) → Follows R.remaining known (past ++ cells_of rows.old ∷ []) rows.old →
+        OnOk result (Follow known past (D.taken out.old) (D.taken out.new)) }
+    ensures begun { (known : Option (List ℕ)) (past : List Cells) → Follows R.remaining known (past ++ cells_of rows.old ∷ []) rows.old →
+        OnErr result (FollowInPart known past (D.taken out.old) (D.taken out.new)) }
     ensures works { OnOk result (D.has_failed out.new ≡ false) }
 {
     hand_on(alloc, rows.row(), out)?;
@@ -80,8 +86,10 @@ fn write_others<R: Read + Drop, D: Device>(
     out: &mut D,
 ) -> Result<(), KeepEnd>
     requires { D.has_failed out.old ≡ false }
-    ensures written { (known : Option (List ℕ)) (past : List Cells) → Follows R.remaining known past rows.old → OnOk result (Follow known past (D.taken out.old) (D.taken out.new)) }
-    ensures begun { (known : Option (List ℕ)) (past : List Cells) → Follows R.remaining known past rows.old → OnErr result (FollowInPart known past (D.taken out.old) (D.taken out.new)) }
+    ensures written { (known : Option (List ℕ)) (past : List Cells) → Follows R.remaining known past rows.old →
+        OnOk result (Follow known past (D.taken out.old) (D.taken out.new)) }
+    ensures begun { (known : Option (List ℕ)) (past : List Cells) → Follows R.remaining known past rows.old →
+        OnErr result (FollowInPart known past (D.taken out.old) (D.taken out.new)) }
     ensures works { OnOk result (D.has_failed out.new ≡ false) }
 {
     while rows.advance()? {

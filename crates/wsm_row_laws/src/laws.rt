@@ -25,7 +25,8 @@ use wsm_turn_laws::laws::feeds_deliveries;
 /// order, and a row of no event for each line that says none. What lines say must be of the keys and the types that are
 /// declared: so it is by a source that was bound to them ([`bound_sources_say_rows`]).
 pub fn rows_are_read()
-    ensures { (s : Source) (d : Declared) (lines : List (List ℕ)) → IsTrue (is_schema d) → AreSayable d (said s d (reverse lines)) → (rows : List (List (List ℕ))) × AreReadBack s d lines rows }
+    ensures { (s : Source) (d : Declared) (lines : List (List ℕ)) → IsTrue (is_schema d) → AreSayable d (said s d (reverse lines)) →
+        (rows : List (List (List ℕ))) × AreReadBack s d lines rows }
 {}
 
 /// And it writes what a run over the log writes without clocks and identifiers, turn by turn, but for the word of a line that says no
@@ -39,7 +40,8 @@ pub fn runs_alike()
 /// What lines say by a source that was bound to a query is of the keys and the types that the query declares, whatever the
 /// description, the zone, the file of names and the lines are.
 pub fn bound_sources_say_rows()
-    ensures { (x : Description) (d : Declared) (zone : Zone) (file : List ℕ) → IsTrue (is_schema d) → IfOk (bound x d zone file) (λ s. (lines : List (List ℕ)) → AreSayable d (said s d lines)) }
+    ensures { (x : Description) (d : Declared) (zone : Zone) (file : List ℕ) → IsTrue (is_schema d) →
+        IfOk (bound x d zone file) (λ s. (lines : List (List ℕ)) → AreSayable d (said s d lines)) }
 {}
 
 /// Where each line says a record that the query could take, with an identifier, or none, a run over the log without clocks feeds the
@@ -65,5 +67,6 @@ pub fn counts_deliveries()
 /// their order, with a row of no event for each line that is none, unless it has no byte. So a run behind `wsm watermarks` is fed
 /// what the definition of its turns says (`wsm_row_watermarks`).
 pub fn rows_are_fed()
-    ensures { (w : Setting) (once : Option ℕ) (last : Bool) (lines : List (List ℕ)) → IsTrue (is_schema w.declared) → AreLines lines → (rows : List (List (List ℕ))) × AreFed w once last lines rows }
+    ensures { (w : Setting) (once : Option ℕ) (last : Bool) (lines : List (List ℕ)) → IsTrue (is_schema w.declared) → AreLines lines →
+        (rows : List (List (List ℕ))) × AreFed w once last lines rows }
 {}

@@ -35,7 +35,8 @@ pub fn kept_alone()
 /// The rows of each turn, of panes or of one of the three streams, are written by what that replay
 /// keeps alone.
 pub fn rows_alone()
-    ensures { (q : Query) → IsShape q.shape → SessionsByEvent q → pos 0 ≤ℤ q.clock.lateness → (past : List Event) (e : Event) → turn_rows q past e ≡ turn_rows_by q past e (replayed q past) }
+    ensures { (q : Query) → IsShape q.shape → SessionsByEvent q → pos 0 ≤ℤ q.clock.lateness → (past : List Event) (e : Event) →
+        turn_rows q past e ≡ turn_rows_by q past e (replayed q past) }
 {}
 
 /// Where lateness is counted from a record's own time, a selected record stands in every window of its
@@ -53,7 +54,8 @@ pub fn fires_once()
 /// Where panes retract, what was written of them and not withdrawn is one row for each firing that
 /// stands, or stood when its window was dropped, and whose HAVING is true.
 pub fn adds_up()
-    ensures { (q : Query) → IsShape q.shape → SessionsByEvent q → pos 0 ≤ℤ q.clock.lateness → q.mode ≡ Retracting → q.form ≡ Panes → (past : List Event) → AddsUp q past }
+    ensures { (q : Query) → IsShape q.shape → SessionsByEvent q → pos 0 ≤ℤ q.clock.lateness → q.mode ≡ Retracting → q.form ≡ Panes → (past : List Event) →
+        AddsUp q past }
 {}
 
 /// Of each declared key no more panes are held than windows can be live at once, each has no more
@@ -73,7 +75,8 @@ pub fn in_any_order()
 /// Each permutation of some events of a history of which none raises the watermark, each with its
 /// verdict, is such another order.
 pub fn each_permutation()
-    ensures { (newer xs ys older : List Judged) → AllByRecursion (λ e. is_rise e ≡ false) xs → IsPermutation xs ys → Reordered (newer ++ (xs ++ older)) (newer ++ (ys ++ older)) }
+    ensures { (newer xs ys older : List Judged) → AllByRecursion (λ e. is_rise e ≡ false) xs → IsPermutation xs ys →
+        Reordered (newer ++ (xs ++ older)) (newer ++ (ys ++ older)) }
 {}
 
 /// Where no record of a history is refused for RECORDS, the part of it that has the records of some keys
@@ -109,15 +112,21 @@ pub fn by_number()
 /// has there. Records with times up to some time may be left out too, for windows that begin after it. Where windows
 /// don't merge, all is the same once the watermark has passed the ends of the others and LATENESS.
 pub fn from_watermark()
-    ensures begun { (q : Query) → source_count q.declared ≡ 1 → (records : ℤ) (older : List Event) → BeginAlike q (mark q older) records (λ key. mark q older +ℤ q.clock.skew) older [] (length older) }
-    ensures marks { (q : Query) (start records : ℤ) (older other : List Event) (longer : ℕ) → marks_of (begun_at start records q).clock q.declared other ≡ marks_of q.clock q.declared older → length older ≡ length other + longer
+    ensures begun { (q : Query) → source_count q.declared ≡ 1 → (records : ℤ) (older : List Event) →
+        BeginAlike q (mark q older) records (λ key. mark q older +ℤ q.clock.skew) older [] (length older) }
+    ensures marks { (q : Query) (start records : ℤ) (older other : List Event) (longer : ℕ) →
+        marks_of (begun_at start records q).clock q.declared other ≡ marks_of q.clock q.declared older → length older ≡ length other + longer
         → BeginAlike q start records (λ key. mark q older +ℤ q.clock.skew) older other longer }
-    ensures events { (x : Times) (events older : List Event) → (whole (map Stays events) older ≡ events ++ older) × (rest (map Stays events) older ≡ events ++ older) × LeavesOut x (map Stays events) }
-    ensures panes { (q : Query) → IsShape q.shape → SessionsByEvent q → (start records : ℤ) (x : Times) (older other : List Event) (longer : ℕ) → BeginAlike q start records x older other longer
+    ensures events { (x : Times) (events older : List Event) →
+        (whole (map Stays events) older ≡ events ++ older) × (rest (map Stays events) older ≡ events ++ older) × LeavesOut x (map Stays events) }
+    ensures panes { (q : Query) → IsShape q.shape → SessionsByEvent q → (start records : ℤ) (x : Times) (older other : List Event) (longer : ℕ) →
+        BeginAlike q start records x older other longer
         → SameAfter q start records x older other longer }
-    ensures rows { (q : Query) → IsShape q.shape → SessionsByEvent q → IgnoresTurns q → (start records : ℤ) (x : Times) (older other : List Event) (longer : ℕ) → BeginAlike q start records x older other longer
+    ensures rows { (q : Query) → IsShape q.shape → SessionsByEvent q → IgnoresTurns q →
+        (start records : ℤ) (x : Times) (older other : List Event) (longer : ℕ) → BeginAlike q start records x older other longer
         → SameRowsAfter q start records x older other }
-    ensures settled { (q : Query) → IsShape q.shape → HasNoSessions q → pos 0 ≤ℤ q.clock.lateness → IgnoresTurns q → (start records : ℤ) (x : Times) (older other : List Event) (longer : ℕ) → BeginAlike q start records x older other longer
+    ensures settled { (q : Query) → IsShape q.shape → HasNoSessions q → pos 0 ≤ℤ q.clock.lateness → IgnoresTurns q →
+        (start records : ℤ) (x : Times) (older other : List Event) (longer : ℕ) → BeginAlike q start records x older other longer
         → SameOnceSettled (LeavesOut x) q start records x older other longer }
 {}
 
@@ -128,15 +137,19 @@ pub fn from_watermark()
 pub fn left_out()
     ensures panes { (q : Query) → IsShape q.shape → SessionsByEvent q → (records : ℤ) (x : Times) → SameBeyond q records x }
     ensures rows { (q : Query) → IsShape q.shape → SessionsByEvent q → IgnoresTurns q → (records : ℤ) (x : Times) → SameRowsBeyond q records x }
-    ensures settled { (q : Query) → IsShape q.shape → SessionsByEvent q → pos 0 ≤ℤ q.clock.lateness → IgnoresTurns q → (records : ℤ) (x : Times) → SameOnceSettled (MayLeaveOut q q.clock.start records x) q q.clock.start records x [] [] 0 }
-    ensures coming { (q : Query) → IsShape q.shape → SessionsByEvent q → (x : Times) (past : List Event) (e : Event) → IsSettled q x (mark q past) → PartsNoSession q x past → PartsNoSession q x (e ∷ past) }
-    ensures times { (q : Query) → IsShape q.shape → (past : List Event) → IsSettled q (dropped_times q past) (mark q past) × PartsNoSession q (dropped_times q past) past }
+    ensures settled { (q : Query) → IsShape q.shape → SessionsByEvent q → pos 0 ≤ℤ q.clock.lateness → IgnoresTurns q → (records : ℤ) (x : Times) →
+        SameOnceSettled (MayLeaveOut q q.clock.start records x) q q.clock.start records x [] [] 0 }
+    ensures coming { (q : Query) → IsShape q.shape → SessionsByEvent q → (x : Times) (past : List Event) (e : Event) → IsSettled q x (mark q past) →
+        PartsNoSession q x past → PartsNoSession q x (e ∷ past) }
+    ensures times { (q : Query) → IsShape q.shape → (past : List Event) →
+        IsSettled q (dropped_times q past) (mark q past) × PartsNoSession q (dropped_times q past) past }
 {}
 
 /// Of a watermark that another comes right behind nothing is kept, where the second raises that of the query as far
 /// without it.
 pub fn kept_once()
-    ensures { (q : Query) → IsShape q.shape → SessionsByEvent q → pos 0 ≤ℤ q.clock.lateness → (past : List Event) (o r : Option ℕ) (t u : ℤ) → mark q (Watermark r u ∷ Watermark o t ∷ past) ≡ mark q (Watermark r u ∷ past)
+    ensures { (q : Query) → IsShape q.shape → SessionsByEvent q → pos 0 ≤ℤ q.clock.lateness → (past : List Event) (o r : Option ℕ) (t u : ℤ) →
+        mark q (Watermark r u ∷ Watermark o t ∷ past) ≡ mark q (Watermark r u ∷ past)
         → kept q (Watermark r u ∷ Watermark o t ∷ past) ≡ kept q (Watermark r u ∷ past) }
 {}
 
@@ -148,14 +161,16 @@ pub fn kept_once()
 pub fn needed_alone()
     ensures live { (q : Query) → IsShape q.shape → (past : List Event) → AllByRecursion (IsOfLive q past) (selected q past) }
     ensures room { (q : Query) (past events : List Event) → HasRoom q (events ++ past) → HasRoom q (events ++ needed q past) }
-    ensures verdict { (q : Query) (past events : List Event) (e : Event) → HasRoom q (e ∷ events ++ past) → verdict_on q (events ++ needed q past) e ≡ verdict_on q (events ++ past) e }
+    ensures verdict { (q : Query) (past events : List Event) (e : Event) → HasRoom q (e ∷ events ++ past) →
+        verdict_on q (events ++ needed q past) e ≡ verdict_on q (events ++ past) e }
 {}
 
 /// Where panes discard what they showed, a column that adds up comes, over all rows of some windows, to what the records
 /// of these windows come to, once the windows were dropped: of one window, of those that begin in a span, of a span of
 /// fixed ones, and of a span of time that cuts no session. Which firings told of them, and when, is of no account.
 pub fn amounts_add_up()
-    ensures { (q : Query) → IsShape q.shape → SessionsByEvent q → q.mode ≡ Discarding → q.form ≡ Panes → (c : ℕ) (amount : Amount) → AddsAmounts q c amount → AmountsAddUp q c amount }
+    ensures { (q : Query) → IsShape q.shape → SessionsByEvent q → q.mode ≡ Discarding → q.form ≡ Panes → (c : ℕ) (amount : Amount) → AddsAmounts q c amount →
+        AmountsAddUp q c amount }
 {}
 
 /// Of deliveries that come at least once each passes once where identifiers are remembered for ever. Where one is
@@ -168,5 +183,6 @@ pub fn passes_once()
 /// So where each record is delivered at least once and taken when it first comes, what is written of a span of time is
 /// what its records come to: each once, in whatever order they came, and however often.
 pub fn invoice()
-    ensures { (q : Query) → IsShape q.shape → SessionsByEvent q → q.mode ≡ Discarding → q.form ≡ Panes → (c : ℕ) (amount : Amount) → AddsAmounts q c amount → Invoices q c amount }
+    ensures { (q : Query) → IsShape q.shape → SessionsByEvent q → q.mode ≡ Discarding → q.form ≡ Panes → (c : ℕ) (amount : Amount) → AddsAmounts q c amount →
+        Invoices q c amount }
 {}

@@ -19,6 +19,7 @@ pub returns-in_default : goal.returns-in_default
 returns-in_default c = let old = c.args.self.now in let new = c.queue_for_streams.new.self in let done = c.queue_for_streams.ensures in record {
   shape = done.settings.shape;
   lateness = done.settings.lateness;
+  begins = done.begins;
   fits = λ q rows e lawful fits told.
       on_ok_all c.queue_for_streams.result
       (λ before queue since. record {

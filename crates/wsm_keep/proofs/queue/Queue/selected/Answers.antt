@@ -1,4 +1,4 @@
-use Rattle.std.proofs.Common.{rules, ◌∙◌, sym}
+use Rattle.std.proofs.Common.{rules}
 use Rattle.wsm_keep.proofs.Items.{selected_of}
 use Rattle.wsm_keep.proofs.queue.Queue.selected.Goals as goal
 

@@ -1,7 +1,6 @@
-use Rattle.std.proofs.Common.{rules, ◌≡◌, ◌++◌, ◌∷◌, [], ℕ, true, false, List, map, reverse, Some, sym, ap, ◌∙◌, append-nil}
+use Rattle.std.proofs.Common.{rules, ◌≡◌, ◌++◌, ◌∷◌, [], ℕ, true, false, List, map, Some, sym, ap, ◌∙◌, append-nil}
 use Rattle.std.proofs.lemmas.List.Elements.{All-pop, All-push, All-same}
 use Rattle.std.proofs.lemmas.Result.{IfOk-weaker}
-use Rattle.std.specs.List.{All}
 use Rattle.wsm_semantics.specs.FromWatermark.{Times}
 use Rattle.wsm_keep.specs.declared.queue.Item.{Item}
 use Rattle.wsm_keep.specs.Items.{Lies, item_of, queue_of, times_of}

@@ -1,7 +1,9 @@
+use Rattle.wsm_kept.proofs.Counted.{keeps_none}
 use Rattle.wsm_kept.proofs.Passed.{fits_none}
 use Rattle.wsm_kept.proofs.pass.Pass.open.Goals as goal
 
 pub returns-clause-fits : goal.returns-clause-fits
 returns-clause-fits c =
     let rows = c.in_ok-run.ensures.fits in
-    fits_none c.args.verified _ rows c.none.ensures c.none-head.ensures c.in_ok-most.ensures (c.cutter-cutter.ensures.fits c.args.verified rows)
+    fits_none c.args.verified _ rows c.none.ensures c.none-head.ensures c.in_ok-most.ensures
+    (keeps_none c.args.verified c.writes_sessions-is_counted.result c.cutter-cutter.result (c.cutter-cutter.ensures.fits c.args.verified rows) c.writes_sessions-is_counted.ensures c.cutter-cutter.ensures.begins)

@@ -33,11 +33,13 @@ returns-clause-taken c = λ p past fits.
     let before : run.Fits p begun.run (map read (written q past)) = subst (λ (rs : List Row). run.Fits p begun.run rs) (sym (read_written q (reverse past)))
     (subst (λ (r : Run). run.Fits p r (rows_of q past)) (sym c.in_ok-begin.ensures.run) fits.run) in
     let tells = c.in_ok-told.ensures.told p (written q past) before in
+    let wrote = c.in_ok-told.ensures.rows p (map read (written q past)) before in
+    let keeps = cuts.cutter in
     let all = subst (λ (rs : List Row). run.Fits p c.take.new.self rs) (sym (rows_of-more q past row)) rows in
     let within : c.counts.result.lines ≤ begun.most = omega (arith, c.if-self-counts.false) in
     let others = c.in_ok-keep.ensures.others in
     goes_on p c.go_on.new.self past row c.go_on.result c.go_on.ensures.cut
     (on_ok_weaker c.go_on.result
-    (λ own. cut_more p begun c.keep.new.self c.go_on.new.self c.take.new.self others c.go_on.ensures.counts past row cuts all (c.in_ok-keep.ensures.cutter p past tells cuts.cutter)
+    (λ own. cut_more p begun c.keep.new.self c.go_on.new.self c.take.new.self others c.go_on.ensures.counts past row cuts all (c.in_ok-keep.ensures.cutter p past tells wrote keeps)
     (subst (λ (n : Counts). n.lines ≤ begun.most) c.counts.ensures within) own)
     c.go_on.ensures.own)

@@ -65,3 +65,14 @@ returns-clause-told c = λ p before fits.
     let from = to_z-of_z first ∙ c.mark-before.ensures past fed.fits ∙ ap (λ (m : Program). mark (query_of m) past) fed.program in
     let to = to_z-of_z last ∙ c.mark-mark.ensures (e ∷ past) (c.feed_judged-reply.ensures.fits past fed.fits) ∙ ap (λ (m : Program). mark (query_of m) (e ∷ past)) is in
     subst (λ (x : Event). IsTold (query_of p) before x c.judge_event-judged.result) c.event-event.ensures (c.judge_event-judged.ensures p before replied from to)
+
+pub returns-clause-rows : goal.returns-clause-rows
+returns-clause-rows c = λ p before fits.
+    let old = c.args.self.now in
+    let e = event_read old.events in
+    let past = events before in
+    let fed = fits.engine in
+    ap (λ (r : Run). r.engine.rows) c.count.ensures.others
+    ∙ c.feed_judged-reply.ensures.rows past fed.fits
+    ∙ ap (λ (x : Event). turn_rows (query_of old.engine.program) past x) c.event-event.ensures
+    ∙ ap (λ (m : Program). turn_rows (query_of m) past e) fed.program
