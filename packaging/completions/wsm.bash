@@ -8,8 +8,8 @@ _wsm() {
     fi
     case $command:$word in
         help:*) mapfile -t COMPREPLY < <(compgen -W 'run compile migrate verify explain deal rows keep watermarks live' -- "$word") && return ;;
-        run:-*) mapfile -t COMPREPLY < <(compgen -W '--program --from --metrics --help' -- "$word") && return ;;
-        verify:-*) mapfile -t COMPREPLY < <(compgen -W '--query --from --help' -- "$word") && return ;;
+        run:-*) mapfile -t COMPREPLY < <(compgen -W '--program --from --metrics --keys --new-keys --most-keys --help' -- "$word") && return ;;
+        verify:-*) mapfile -t COMPREPLY < <(compgen -W '--query --from --keys --help' -- "$word") && return ;;
         explain:-*) mapfile -t COMPREPLY < <(compgen -W '--json --query --help' -- "$word") && return ;;
         deal:-*) mapfile -t COMPREPLY < <(compgen -W '--keys-of --help' -- "$word") && return ;;
         keep:-*) mapfile -t COMPREPLY < <(compgen -W '--program --taken --most --help' -- "$word") && return ;;

@@ -4,3 +4,4 @@ pub mod Written
 pub mod CellLemmas
 pub mod LineLemmas
 pub mod WordLemmas
+pub mod KeyedLemmas

@@ -10,3 +10,5 @@ pub mod Tags
 pub mod Lines
 pub mod InPlace
 pub mod EventReader
+pub mod KeyedRows
+pub mod KeyedLines

@@ -1,11 +1,12 @@
 //! Rows read as events, each in place of the last.
 
-ghost use Rattle.std.specs.Prelude.{◌≡◌, ◌≢◌, ◌≤◌, drop, length, vec_capacity, IfErr, IfOk, OnOk, Err, Ok};
+ghost use Rattle.std.specs.Prelude.{◌≡◌, ◌≢◌, ◌≤◌, drop, length, max, vec_capacity, IfErr, IfOk, OnOk, Err, Ok};
 ghost use Rattle.csv.specs.Records.{fields_of};
 ghost use Rattle.wsm_record.specs.Event.{Record, event_of};
 ghost use Rattle.wsm_admission.specs.Clock.{fits_declared};
 ghost use Rattle.wsm_csv.specs.Cells.{record_of, watermark_of};
 ghost use Rattle.wsm_csv.specs.InPlace.{room_in, values_in};
+ghost use Rattle.wsm_csv.specs.KeyedRows.{said_from};
 ghost use Rattle.wsm_csv.specs.Refused.{IfFault};
 
 use crate::number::Fronts;
@@ -14,6 +15,13 @@ use csv::ByteRecord;
 use std::alloc::Global;
 use std::mem;
 use wsm_record::{Event, RowFault, Schema, Value};
+
+// Where the key of a record is found: in its cell, or it is handed in.
+#[derive(Clone, Copy)]
+enum KeyFrom {
+    Cell,
+    Number(Option<u16>),
+}
 
 /// Reads rows as events, each in place of the last. The values of a record are read into the vector of
 /// the record before.
@@ -30,11 +38,12 @@ pub struct EventReader {
 }
 
 impl EventReader {
-    ghost use Rattle.std.specs.Prelude.{◌≡◌, ◌≢◌, ◌≤◌, [], length, pos, IfErr, OnOk, Err, None, Ok, Some, slice_get};
+    ghost use Rattle.std.specs.Prelude.{◌≡◌, ◌≢◌, ◌≤◌, [], length, max, pos, IfErr, OnOk, Err, None, Ok, Some, slice_get};
     ghost use Rattle.csv.specs.Records.{fields_of};
     ghost use Rattle.wsm_record.specs.Event.{Record, event_of};
     ghost use Rattle.wsm_admission.specs.Clock.{fits_declared};
     ghost use Rattle.wsm_csv.specs.Cells.{event_of_cells, record_tag};
+    ghost use Rattle.wsm_csv.specs.KeyedRows.{event_as, said_from};
     ghost use Rattle.wsm_csv.specs.Refused.{IfFault};
     ghost use Rattle.wsm_csv.specs.EventReader.{event_read, fits_read, room_of};
 
@@ -55,8 +64,8 @@ impl EventReader {
     }
 
     /// Reads the event of a row, as [`read_row`](crate::read_row) does. Where there is room for a value
-    /// of each field no memory is asked for, and no room is given back. After a refusal any event
-    /// stands there.
+    /// of each field no memory is asked for, and no room is given back; else there is room for these
+    /// and no more. After a refusal any event stands there.
     pub fn read(&mut self, schema: &Schema, row: &ByteRecord) -> Result<(), RowRefusal>
         ensures event { OnOk result (event_of_cells schema.now (fields_of row.now) ≡ Ok (event_read self.new)) }
         ensures fits { OnOk result (fits_read self.new ≡ fits_declared schema.now (event_read self.new)) }
@@ -64,6 +73,44 @@ impl EventReader {
         ensures memory { result ≡ Err RowRefusal.Memory → slice_get (fields_of row.now) 0 ≡ Some record_tag }
         ensures room { length schema.now.fields ≤ room_of self.old → result ≢ Err RowRefusal.Memory }
         ensures kept { room_of self.old ≤ room_of self.new }
+        ensures few { room_of self.new ≤ max (room_of self.old) (length schema.now.fields) }
+    {
+        self.read_from(schema, row, KeyFrom::Cell)
+    }
+
+    /// The same, but a record has this key: its cell is of any text, and isn't looked up.
+    pub fn read_as(
+        &mut self,
+        schema: &Schema,
+        row: &ByteRecord,
+        key: Option<u16>,
+    ) -> Result<(), RowRefusal>
+        ensures event { OnOk result (event_as schema.now key (fields_of row.now) ≡ Ok (event_read self.new)) }
+        ensures fits { OnOk result (fits_read self.new ≡ fits_declared schema.now (event_read self.new)) }
+        ensures fault { IfErr result (λ r. IfFault r (λ f. event_of_cells schema.now (fields_of row.now) ≡ Err f)) }
+        ensures memory { result ≡ Err RowRefusal.Memory → slice_get (fields_of row.now) 0 ≡ Some record_tag }
+        ensures room { length schema.now.fields ≤ room_of self.old → result ≢ Err RowRefusal.Memory }
+        ensures kept { room_of self.old ≤ room_of self.new }
+        ensures few { room_of self.new ≤ max (room_of self.old) (length schema.now.fields) }
+    {
+        self.read_from(schema, row, KeyFrom::Number(key))
+    }
+
+    // Reads the event of a row, with its key from there.
+    #[inline(always)]
+    fn read_from(
+        &mut self,
+        schema: &Schema,
+        row: &ByteRecord,
+        from: KeyFrom,
+    ) -> Result<(), RowRefusal>
+        ensures event { OnOk result (said_from from (event_of_cells schema.now (fields_of row.now)) ≡ Ok (event_read self.new)) }
+        ensures fits { OnOk result (fits_read self.new ≡ fits_declared schema.now (event_read self.new)) }
+        ensures fault { IfErr result (λ r. IfFault r (λ f. event_of_cells schema.now (fields_of row.now) ≡ Err f)) }
+        ensures memory { result ≡ Err RowRefusal.Memory → slice_get (fields_of row.now) 0 ≡ Some record_tag }
+        ensures room { length schema.now.fields ≤ room_of self.old → result ≢ Err RowRefusal.Memory }
+        ensures kept { room_of self.old ≤ room_of self.new }
+        ensures few { room_of self.new ≤ max (room_of self.old) (length schema.now.fields) }
     {
         match read_tag(row) {
             Some(Tag::Record) => {
@@ -71,6 +118,7 @@ impl EventReader {
                 self.values_fit = read_record(
                     schema,
                     row,
+                    from,
                     fronts,
                     &mut self.event,
                     &mut self.spare,
@@ -109,27 +157,32 @@ impl EventReader {
     }
 }
 
-// Reads a record in place of an event, up to the first fault. Answers whether its values fit the
-// schema.
+// Reads a record in place of an event, up to the first fault, with its key from there. Answers whether
+// its values fit the schema.
 #[inline(always)]
 fn read_record(
     schema: &Schema,
     row: &ByteRecord,
+    from: KeyFrom,
     fronts: &mut Fronts,
     event: &mut Event,
     spare: &mut Vec<Value>,
 ) -> Result<bool, RowRefusal>
-    ensures event { OnOk result (record_of schema.now (drop 1 (fields_of row.now)) ≡ Ok (event_of event.new)) }
+    ensures event { OnOk result (said_from from (record_of schema.now (drop 1 (fields_of row.now))) ≡ Ok (event_of event.new)) }
     ensures fits { IfOk result (λ fits. fits ≡ fits_declared schema.now (event_of event.new)) }
     ensures fault { IfErr result (λ r. IfFault r (λ f. record_of schema.now (drop 1 (fields_of row.now)) ≡ Err f)) }
     ensures room { length schema.now.fields ≤ room_in event.old (vec_capacity spare.old) → result ≢ Err RowRefusal.Memory }
     ensures kept { room_in event.old (vec_capacity spare.old) ≤ room_in event.new (vec_capacity spare.new) }
+    ensures few { room_in event.new (vec_capacity spare.new) ≤ max (room_in event.old (vec_capacity spare.old)) (length schema.now.fields) }
 {
     let fields = schema.fields();
     if row.len() != RECORD_HEAD + fields.len() {
         return Err(RowRefusal::Fault(RowFault::CellCount));
     }
-    let key = schema.key_number(cell_at(row, 1));
+    let key = match from {
+        KeyFrom::Cell => schema.key_number(cell_at(row, 1)),
+        KeyFrom::Number(key) => key,
+    };
     let time = fronts
         .read_number(cell_at(row, 2))
         .ok_or(RowFault::BadNumber)?;

@@ -31,7 +31,8 @@ pub use event_reader::EventReader;
 pub use guarded::Guarded;
 pub use row::{RowRefusal, read_row};
 pub use rows::{ReadEnd, Rows};
-pub use text::{end_text, fault_text, refusal_text, row_text, rows_text};
+pub use text::{end_text, fault_text, keyed_row_text, refusal_text, row_text, rows_text};
+pub use window_text::WindowText;
 
 mod device;
 mod event_reader;

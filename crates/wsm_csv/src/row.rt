@@ -1,6 +1,6 @@
 //! Reading rows as events.
 
-ghost use Rattle.std.specs.Prelude.{◌≡◌, ◌≢◌, ◌+◌, ◌<◌, ◌≤◌, [], drop, length, map, vec_capacity, IfErr, IfOk, IsOk, OnOk, Err, Ok, Some, slice_get};
+ghost use Rattle.std.specs.Prelude.{◌≡◌, ◌≢◌, ◌+◌, ◌<◌, ◌≤◌, [], drop, length, map, max, vec_capacity, IfErr, IfOk, IsOk, OnOk, Err, Ok, Some, slice_get};
 ghost use Rattle.csv.specs.Records.{fields_of};
 ghost use Rattle.wsm_record.specs.Event.{event_of};
 ghost use Rattle.wsm_record.specs.Fields.{field_seen, type_seen};
@@ -139,6 +139,7 @@ pub(crate) fn read_values(
     ensures fault { IfErr result (λ r. IfFault r (λ f. values_of (map field_seen fields.now) (drop RECORD_HEAD (fields_of row.now)) ≡ Err f)) }
     ensures room { length fields.now ≤ vec_capacity values.old → result ≢ Err RowRefusal.Memory }
     ensures kept { vec_capacity values.old ≤ vec_capacity values.new }
+    ensures few { vec_capacity values.new ≤ max (vec_capacity values.old) (length fields.now) }
 {
     fit(values, fields.len())?;
     let mut fits = true;
@@ -148,12 +149,13 @@ pub(crate) fn read_values(
     Ok(fits)
 }
 
-// Has there be so many values, whatever they are.
+// Has there be so many values, whatever they are, and room for no more than there was, or for these.
 #[inline(always)]
 fn fit(values: &mut Vec<Value>, count: usize) -> Result<(), AllocError>
     ensures count { OnOk result (length values.new.items ≡ count) }
     ensures room { count ≤ vec_capacity values.old → IsOk result }
     ensures kept { vec_capacity values.old ≤ vec_capacity values.new }
+    ensures few { vec_capacity values.new ≤ max (vec_capacity values.old) count }
 {
     if values.len() == count {
         return Ok(());
@@ -166,8 +168,14 @@ fn resize(values: &mut Vec<Value>, count: usize) -> Result<(), AllocError>
     ensures count { OnOk result (length values.new.items ≡ count) }
     ensures room { count ≤ vec_capacity values.old → IsOk result }
     ensures kept { vec_capacity values.old ≤ vec_capacity values.new }
+    ensures few { vec_capacity values.new ≤ max (vec_capacity values.old) count }
 {
-    values.resize(count, Value::Int(0))
+    values.truncate(count);
+    values.reserve_exact(count - values.len())?;
+    for made in values.len()..count {
+        values.push_reserved(Value::Int(0));
+    }
+    Ok(())
 }
 
 // Reads the value of a field in place of the one that is there, and answers whether it lies in the

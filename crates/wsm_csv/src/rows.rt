@@ -49,7 +49,8 @@ impl<R: Read + Drop> Rows<R> {
     /// Reads the next row, and answers whether there was one. After an error there is none, and what
     /// `csv` said is kept: a failed read is told where it said so, and nowhere else.
     pub fn advance(&mut self) -> Result<bool, ReadEnd>
-        ensures advances { (known : Option (List ℕ)) (rows : List (List (List ℕ))) → Follows R.remaining known rows self.old → Advances R.remaining known rows self.new result }
+        ensures advances { (known : Option (List ℕ)) (rows : List (List (List ℕ))) → Follows R.remaining known rows self.old →
+            Advances R.remaining known rows self.new result }
         ensures counts { result ≡ Ok true → turns_left self.new < turns_left self.old }
         ensures ended { has_ended self.old ≡ true → result ≢ Ok true }
         ensures told { IfErr result (λ end. end ≡ read_end (error_of self.new)) }

@@ -31,7 +31,9 @@ pub(crate) fn add_short_line(
     requires name { length name.now ≤ MAX_NAME }
     requires numbers { list_all is_a_number numbers.now ≡ true }
     requires few { length numbers.now ≤ TOGETHER }
-    ensures { OnOk result (out.new.items ≡ out.old.items ++ ((codes "pane" ++ 44 ∷ text.kind_word kind ++ 44 ∷ []) ++ (name.now ++ (cells_text (window_cells window.now ++ map number_text numbers.now) ++ 10 ∷ [])))) }
+    ensures { OnOk result (out.new.items ≡ out.old.items
+        ++ ((codes "pane" ++ 44 ∷ text.kind_word kind ++ 44 ∷ [])
+        ++ (name.now ++ (cells_text (window_cells window.now ++ map number_text numbers.now) ++ 10 ∷ [])))) }
 {
     let mut line = [b'\n'; LINE];
     let columns = write_numbers(numbers, &mut line, LINE - 1);

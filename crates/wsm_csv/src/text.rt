@@ -11,6 +11,7 @@ ghost use Rattle.wsm_record.specs.Schema.{Declared};
 ghost use Rattle.wsm_semantics.specs.Lines.{Out, Faulty, Refused, End};
 ghost use Rattle.wsm_semantics.specs.Text as text;
 ghost use Rattle.wsm_csv.specs.Lines.{cells_text, is_a_number, number_text};
+ghost use Rattle.wsm_csv.specs.KeyedLines.{IsLineOf, key_text, keyed_cells, keyed_text};
 
 use crate::few_numbers::{CELLS, TOGETHER, are_few_numbers, count_numbers, write_numbers};
 use crate::from_end::{CELL, write_cell, write_text};
@@ -48,6 +49,21 @@ pub fn row_text(schema: &Schema, row: &OutRow, out: &mut Vec<u8>) -> Result<(), 
     add_line(schema, row, &mut last, out)
 }
 
+/// Adds the line of a row whose key is written by this text, in place of the name that its number has in the schema. The text is
+/// that of the window that was written last. A row of a stream has no key.
+pub fn keyed_row_text(
+    schema: &Schema,
+    key: &[u8],
+    row: &OutRow,
+    last: &mut WindowText,
+    out: &mut Vec<u8>,
+) -> Result<(), AllocError>
+    ensures text { OnOk result (out.new.items ≡ out.old.items ++ keyed_text schema.now key.now row.now) }
+    ensures line { IsLineOf schema.now key.now row.now (keyed_text schema.now key.now row.now) }
+{
+    add_keyed_line(schema, key, row, last, out)
+}
+
 /// Adds the line of a row that is no event.
 pub fn fault_text(row: u64, why: RowFault, out: &mut Vec<u8>) -> Result<(), AllocError>
     ensures { (declared : Declared) → OnOk result (out.new.items ≡ out.old.items ++ text.line_text declared (Faulty row why)) }
@@ -64,7 +80,8 @@ pub fn refusal_text(row: u64, why: Refusal, out: &mut Vec<u8>) -> Result<(), All
 
 /// Adds the last line.
 pub fn end_text(totals: Totals, out: &mut Vec<u8>) -> Result<(), AllocError>
-    ensures { (declared : Declared) → OnOk result (out.new.items ≡ out.old.items ++ text.line_text declared (End totals.rows totals.admitted totals.late totals.refused totals.panes)) }
+    ensures { (declared : Declared) →
+        OnOk result (out.new.items ≡ out.old.items ++ text.line_text declared (End totals.rows totals.admitted totals.late totals.refused totals.panes)) }
 {
     out.extend_from_slice(b"end")?;
     add_count(totals.rows, out)?;
@@ -101,44 +118,69 @@ fn add_line(
 ) -> Result<(), AllocError>
     ensures { OnOk result (out.new.items ≡ out.old.items ++ text.line_text schema.now (Out row.now)) }
 {
+    add_keyed_line(schema, name_of(schema, row), row, last, out)
+}
+
+// The name of the key of a row, or no byte.
+#[inline(always)]
+fn name_of<'a>(schema: &'a Schema, row: &OutRow) -> &'a [u8]
+    ensures { result.now ≡ key_text schema.now.keys row.now }
+{
+    match row {
+        OutRow::Pane { key, .. } => name_text(Some(schema.keys()), *key),
+        OutRow::Retract { key, .. } => name_text(Some(schema.keys()), *key),
+        _ => b"",
+    }
+}
+
+// The line of a row whose key is written by this text.
+#[inline(always)]
+fn add_keyed_line(
+    schema: &Schema,
+    name: &[u8],
+    row: &OutRow,
+    last: &mut WindowText,
+    out: &mut Vec<u8>,
+) -> Result<(), AllocError>
+    ensures { OnOk result (out.new.items ≡ out.old.items ++ keyed_text schema.now name.now row.now) }
+{
     if let OutRow::Pane {
         kind,
-        key,
         window,
         columns,
+        ..
     } = row
     {
-        let name = name_text(Some(schema.keys()), *key);
         let columns = columns.as_slice();
         if name.len() <= MAX_NAME && are_few_numbers(columns) {
             last.set(*window);
             return add_short_line(*kind, name, last, columns, out);
         }
     }
-    add_row(schema, row, out)?;
+    add_row(schema, name, row, out)?;
     end_line(out)
 }
 
-// The cells of a row.
-fn add_row(schema: &Schema, row: &OutRow, out: &mut Vec<u8>) -> Result<(), AllocError>
-    ensures { OnOk result (out.new.items ≡ out.old.items ++ text.joined (text.row_cells schema.now row.now)) }
+// The cells of a row whose key is written by this text.
+fn add_row(schema: &Schema, name: &[u8], row: &OutRow, out: &mut Vec<u8>) -> Result<(), AllocError>
+    ensures { OnOk result (out.new.items ≡ out.old.items ++ text.joined (keyed_cells schema.now name.now row.now)) }
 {
     match row {
         OutRow::Pane {
             kind,
-            key,
             window,
             columns,
+            ..
         } => {
-            add_pane(schema, *kind, *key, out)?;
+            add_pane(*kind, name, out)?;
             add_window(schema, *window, columns.as_slice(), out)
         }
         OutRow::Retract {
-            key,
             window,
             columns,
+            ..
         } => {
-            add_withdrawn(schema, *key, out)?;
+            add_withdrawn(name, out)?;
             add_window(schema, *window, columns.as_slice(), out)
         }
         OutRow::Istream { mark, columns } => add_stream(schema, b"istream", *mark, columns, out),
@@ -148,21 +190,21 @@ fn add_row(schema: &Schema, row: &OutRow, out: &mut Vec<u8>) -> Result<(), Alloc
 }
 
 // The cells of a pane in front of its window.
-fn add_pane(schema: &Schema, kind: PaneKind, key: u16, out: &mut Vec<u8>) -> Result<(), AllocError>
-    ensures { OnOk result (out.new.items ≡ out.old.items ++ (codes "pane" ++ cells_text (text.kind_word kind ∷ text.name_at schema.now.keys key ∷ []))) }
+fn add_pane(kind: PaneKind, name: &[u8], out: &mut Vec<u8>) -> Result<(), AllocError>
+    ensures { OnOk result (out.new.items ≡ out.old.items ++ (codes "pane" ++ cells_text (text.kind_word kind ∷ name.now ∷ []))) }
 {
     let mut first = [0; FIRST];
     let start = write_first(kind, &mut first, FIRST);
     out.extend_from_slice(&first[start..])?;
-    out.extend_from_slice(name_text(Some(schema.keys()), key))
+    out.extend_from_slice(name)
 }
 
 // The cells of a pane that is withdrawn in front of its window.
-fn add_withdrawn(schema: &Schema, key: u16, out: &mut Vec<u8>) -> Result<(), AllocError>
-    ensures { OnOk result (out.new.items ≡ out.old.items ++ (codes "retract" ++ cells_text (text.name_at schema.now.keys key ∷ []))) }
+fn add_withdrawn(name: &[u8], out: &mut Vec<u8>) -> Result<(), AllocError>
+    ensures { OnOk result (out.new.items ≡ out.old.items ++ (codes "retract" ++ cells_text (name.now ∷ []))) }
 {
     out.extend_from_slice(b"retract")?;
-    add_cell(name_text(Some(schema.keys()), key), out)
+    add_cell(name, out)
 }
 
 // The cells of a window and of the columns behind it.
@@ -172,7 +214,8 @@ fn add_window(
     columns: &[Cell],
     out: &mut Vec<u8>,
 ) -> Result<(), AllocError>
-    ensures { OnOk result (out.new.items ≡ out.old.items ++ cells_text (signed_decimal window.start ∷ signed_decimal window.end ∷ map (text.cell_text schema.now) columns.now)) }
+    ensures { OnOk result (out.new.items ≡ out.old.items
+        ++ cells_text (signed_decimal window.start ∷ signed_decimal window.end ∷ map (text.cell_text schema.now) columns.now)) }
 {
     let count = count_numbers(columns);
     add_numbers(window, &columns[..count], out)?;
@@ -183,7 +226,8 @@ fn add_window(
 fn add_numbers(window: Window, numbers: &[Cell], out: &mut Vec<u8>) -> Result<(), AllocError>
     requires numbers { list_all is_a_number numbers.now ≡ true }
     requires few { length numbers.now ≤ TOGETHER }
-    ensures { OnOk result (out.new.items ≡ out.old.items ++ cells_text (signed_decimal window.start ∷ signed_decimal window.end ∷ map number_text numbers.now)) }
+    ensures { OnOk result (out.new.items ≡ out.old.items
+        ++ cells_text (signed_decimal window.start ∷ signed_decimal window.end ∷ map number_text numbers.now)) }
 {
     let mut cells = [0; CELLS];
     let first = write_numbers(numbers, &mut cells, CELLS);

@@ -13,7 +13,7 @@ pub(crate) const WINDOW: usize = 2 * CELL;
 /// The cells of the window that was written last. Panes that fire at one watermark mostly share their
 /// window, whose numbers are made into text once. A clause sees the window.
 #[derive(Drop)]
-pub(crate) struct WindowText {
+pub struct WindowText {
     window: Window,
     // The text is what stands here from a place on.
     cells: [u8; WINDOW],
@@ -35,7 +35,7 @@ impl Model for WindowText {
 
 impl WindowText {
     /// The text of a window.
-    pub(crate) fn of(window: Window) -> WindowText
+    pub fn of(window: Window) -> WindowText
         ensures { result ≡ window }
     {
         let mut cells = [0; WINDOW];

@@ -150,5 +150,12 @@ module _ (places : List (List ℕ)) (records : ℤ) (q : Query) (ok : IsShape q.
   writes_together = record {
     lines = λ before row. lines_are (after_rows places records q before) before (fits_after before) row;
     end = λ rows. end_is (after_rows places records q rows) rows (fits_after rows);
+    verdict = λ before e. same_verdict (after_rows places records q before) before (fits_after before) e;
+    rows = λ before e.
+        ap (rows_by places records q (after_rows places records q before) e) (same_verdict (after_rows places records q before) before (fits_after before) e)
+        ∙ rows_are (after_rows places records q before) before (fits_after before) e (verdict_on q (events before) e) refl;
+    clock = λ rows. (fits_after rows).clock;
+    front = λ rows. (fits_after rows).front;
+    fired = λ rows. (fits_after rows).fired;
     taken = λ rows e is part few before which. takes (after_rows places records q rows) rows (fits_after rows) e is part few before which;
   }

@@ -10,14 +10,14 @@ use Rattle.wsm_windows.specs.Windows.{IsShape}
 use Rattle.wsm_admission.specs.declared.verdict.Admitted.{Admitted}
 use Rattle.wsm_admission.specs.declared.verdict.Refusal.{Refusal}
 use Rattle.wsm_admission.specs.Clock.{verdict_at}
-use Rattle.wsm_admission.specs.Admission.{State, opened, counter, decision, after}
+use Rattle.wsm_admission.specs.Admission.{State, Fits, opened, counter, decision, after}
 use Rattle.wsm_semantics.specs.declared.out_row.OutRow.{OutRow}
 use Rattle.wsm_semantics.specs.Query.{Datum, Query, SessionsByEvent, verdict_on}
-use Rattle.wsm_semantics.specs.Firings.{firings}
+use Rattle.wsm_semantics.specs.Firings.{firings, firings_so_far}
 use Rattle.wsm_semantics.specs.Relation.{turn_rows}
 use Rattle.wsm_semantics.specs.ByKey.{Keys, IgnoresTurns, is_of}
 use Rattle.wsm_semantics.specs.ByNumber.{Numbers, datum_by, event_by, row_by, with_keys}
-use Rattle.wsm_semantics.specs.Lines.{Row, Line, Out, Faulty, End, refusal_lines, turn_lines, end_line}
+use Rattle.wsm_semantics.specs.Lines.{Row, Line, Out, Faulty, End, events, refusal_lines, turn_lines, end_line}
 use Rattle.wsm_key_parts.specs.Merged.{merged}
 use Rattle.wsm_key_parts.specs.OpenedLate.{openers}
 
@@ -165,10 +165,16 @@ module _ (places : List (List ℕ)) (records : ℤ) (q : Query) where
   after_rows [] = unopened
   after_rows (row ∷ rows) = part_turn (after_rows rows) row
 
-  -- line by line the parts write what the query over all keys writes, and what a part is fed it takes
+  -- line by line the parts write what the query over all keys writes, with its verdicts and rows; what the front keeps and how many
+  -- panes fired is that of the history; and what a part is fed it takes
   pub record WritesTogether : Type 0 where
     pub lines : (before : List Row) (row : Row) → part_lines (after_rows before) row ≡ turn_lines q before row
     pub end : (rows : List Row) → part_end (after_rows rows) ≡ end_line q rows
+    pub verdict : (before : List Row) (e : Event) → verdict_by (after_rows before) e ≡ verdict_on q (events before) e
+    pub rows : (before : List Row) (e : Event) → rows_by (after_rows before) e (verdict_by (after_rows before) e) ≡ turn_rows q (events before) e
+    pub clock : (rows : List Row) → (after_rows rows).front.clock ≡ q.clock
+    pub front : (rows : List Row) → Fits q.shape q.declared (after_rows rows).front (events rows)
+    pub fired : (rows : List Row) → (after_rows rows).fired ≡ length (firings_so_far q (events rows))
     pub taken : (rows : List Row) (e : Event) → verdict_by (after_rows rows) e ≡ None → (part : ℕ) → part < length q.declared.keys →
         (before : List Event) → before_in (after_rows rows) e part ≡ Some before →
         verdict_on (query_in places records q part) before (placed (length places) e) ≡ None

@@ -21,7 +21,7 @@ use Rattle.wsm_part_programs.specs.Names.{of_names, RunsPart, WritesNames}
 use Rattle.wsm_part_programs.proofs.KeylessRuns.{ignores_keys}
 
 -- FIRE reads what records are folded to, in any order
-turns_ignored : (p : Program) → IgnoresTurns (query_of p)
+pub turns_ignored : (p : Program) → IgnoresTurns (query_of p)
 turns_ignored p =
     ignores_turns (query_of p)
     (ignores_order (folds_of p.header.kinds) (fold_by-permuted (joins p.header.kinds) (joins_assoc p.header.kinds) (joins_comm p.header.kinds))

@@ -5,6 +5,7 @@ use Rattle.clap.specs.declared.builder.ArgAction.TheVariants.{SetTrue}
 use Rattle.clap.specs.declared.error.Error.{Error}
 use Rattle.clap.specs.declared.error.kind.ErrorKind.TheVariants.{OutOfMemory}
 use Rattle.wsm_words.specs.declared.job.Agreement.{Agreement}
+use Rattle.wsm_words.specs.declared.job.Named.{Named}
 use Rattle.wsm_words.specs.declared.job.Job.{Job}
 use Rattle.wsm_words.specs.declared.job.Job.TheVariants.{Run, Compile, Migrate, Verify, Explain, Deal, Rows, Keep, Watermarks, Live}
 use Rattle.wsm_words.specs.declared.refusal.WordsRefusal.{WordsRefusal}
@@ -34,10 +35,14 @@ needed_rule name = record (new_rule name) { long = Some name; value_names = 1; r
 abbrev pub rows_rule : Rule
 rows_rule = record (new_rule (codes "rows")) { value_names = 1 }
 
--- run [--program] [--from SOURCE] [--metrics FILE] QUERY [ROWS]
+-- run [--program] [--from SOURCE] [--metrics FILE]
+abbrev pub counting_app : App
+counting_app = with_rule (with_rule (with_rule (new_app (codes "run")) (flag_rule (codes "program"))) (option_rule (codes "from"))) (option_rule (codes "metrics"))
+
+-- and with [--keys FILE] [--new-keys] [--most-keys N] QUERY [ROWS]
 abbrev pub run_app : App
 run_app =
-    with_rule (with_rule (with_rule (with_rule (with_rule (new_app (codes "run")) (flag_rule (codes "program"))) (option_rule (codes "from"))) (option_rule (codes "metrics")))
+    with_rule (with_rule (with_rule (with_rule (with_rule counting_app (option_rule (codes "keys"))) (flag_rule (codes "new-keys"))) (option_rule (codes "most-keys")))
     (file_rule (codes "query"))) rows_rule
 
 -- compile QUERY OUT
@@ -48,9 +53,11 @@ compile_app = with_rule (with_rule (new_app (codes "compile")) (file_rule (codes
 abbrev pub migrate_app : App
 migrate_app = with_rule (with_rule (new_app (codes "migrate")) (file_rule (codes "program"))) (file_rule (codes "out"))
 
--- verify [--query] [--from SOURCE] PROGRAM
+-- verify [--query] [--from SOURCE] [--keys N] PROGRAM
 abbrev pub verify_app : App
-verify_app = with_rule (with_rule (with_rule (new_app (codes "verify")) (flag_rule (codes "query"))) (option_rule (codes "from"))) (file_rule (codes "program"))
+verify_app =
+    with_rule (with_rule (with_rule (with_rule (new_app (codes "verify")) (flag_rule (codes "query"))) (option_rule (codes "from"))) (option_rule (codes "keys")))
+    (file_rule (codes "program"))
 
 -- explain [--json] [--query] PROGRAM
 abbrev pub explain_app : App
@@ -163,17 +170,21 @@ IsAgreement entries a =
     HasOption entries (codes "agree") a.agree × Names entries (codes "bound") a.bound × HasOption entries (codes "step") a.step
     × HasOption entries (codes "forget") a.forget × HasOption entries (codes "room") a.room
 
+-- it has what the entries say of keys
+abbrev pub IsNamed : List Row → Named → Type 0
+IsNamed entries n = HasOption entries (codes "keys") n.file × SaysFlag (one_of (codes "new-keys") entries) n.takes_new × HasOption entries (codes "most-keys") n.most
+
 -- the job has what the entries of the command of its name have
 abbrev pub IsJob : Text → List Row → Job → Type 0
 IsJob name entries (Run job) =
     (name ≡ codes "run") × SaysFlag (one_of (codes "program") entries) job.program
-    × HasOption entries (codes "from") job.from × HasOption entries (codes "metrics") job.metrics
+    × HasOption entries (codes "from") job.from × HasOption entries (codes "metrics") job.metrics × IsNamed entries job.keys
     × Names entries (codes "query") job.query × NamesRows entries job.rows
 IsJob name entries (Compile job) = (name ≡ codes "compile") × Names entries (codes "query") job.query × Names entries (codes "out") job.out
 IsJob name entries (Migrate job) = (name ≡ codes "migrate") × Names entries (codes "program") job.program × Names entries (codes "out") job.out
 IsJob name entries (Verify job) =
     (name ≡ codes "verify") × SaysFlag (one_of (codes "query") entries) job.query
-    × HasOption entries (codes "from") job.from × Names entries (codes "program") job.program
+    × HasOption entries (codes "from") job.from × HasOption entries (codes "keys") job.keys × Names entries (codes "program") job.program
 IsJob name entries (Explain job) =
     (name ≡ codes "explain") × SaysFlag (one_of (codes "json") entries) job.json
     × SaysFlag (one_of (codes "query") entries) job.query × Names entries (codes "program") job.program

@@ -52,6 +52,20 @@ pub const FROM: &str = "ROWS is a log, whose lines are read by the source of thi
 pub const METRICS: &str =
     "Write at the end to this file what was counted, as text that Prometheus reads";
 
+/// What the option for names says.
+pub const NAMES: &str =
+    "The keys are the names of this file, one a line, and QUERY has no KEYS clause";
+
+/// What the flag for new names says.
+pub const TAKES_NEW: &str = "With --keys: a name that comes in a record is a key from then on";
+
+/// What the option for the number of names says.
+pub const MOST_KEYS: &str = "With --new-keys: so many keys at most, those of the file among them";
+
+/// What the option for the number of keys says.
+pub const KEY_COUNT: &str =
+    "PROGRAM is the text of a query for `wsm run --keys`, to tell what N keys take";
+
 /// What is run.
 pub const QUERY_OR_PROGRAM: &str = "The file of the query's text, or of the program";
 
@@ -101,7 +115,33 @@ was there. Of the log above it has
   wsm_lines_total 3
 
 and so on: records that were admitted, late and refused, panes, and of a log doubles, records that told
-no time, how many waited at the end, and how many clocks speak and have to agree.";
+no time, how many waited at the end, and how many clocks speak and have to agree.
+
+With --keys FILE a query may have any number of keys. Its text has no KEYS clause and doesn't say KEY,
+it says EMIT PANES, and FILE has a name a line, any 1 to 255 bytes:
+
+  tail -n +2 sums.wsm > text.wsm
+  printf 'a\\nx, y\\n' > names
+  printf 'r,a,5,7\\nr,b,9,3\\nw,60\\n' | wsm run --keys names text.wsm
+
+writes
+
+  refused,2,UnknownKey
+  pane,on_time,a,0,60,1,7
+  end,3,1,0,1,1
+
+With --new-keys each name that comes in a record is a key from then on, up to --most-keys N of them:
+
+  printf 'r,a,5,7\\nr,b,9,3\\nw,60\\n' | wsm run --keys names --new-keys text.wsm
+
+writes
+
+  pane,on_time,a,0,60,1,7
+  pane,on_time,b,0,60,1,3
+  end,3,2,0,0,2
+
+and tells `new keys: 1` on standard error. Keys have the order of FILE, and then that in which they came.
+`wsm verify --keys` tells what so many keys take.";
 
 /// What the command `compile` does.
 pub const COMPILE: &str = "Writes the program of a query to a file, without judging it.";
@@ -178,7 +218,17 @@ With the source of `wsm run --help`,
   wsm verify --query --from log.toml sums.wsm
 
 writes the same line, since the source and the query fit each other. Of a source that doesn't fit
-the first fault is told on standard error, and the status is 3.";
+the first fault is told on standard error, and the status is 3.
+
+With the text of `wsm run --help`, which has no KEYS clause,
+
+  wsm verify --keys 50000 text.wsm
+
+writes
+
+  parts,50,1000,3000
+
+50000 keys are run in 50 parts of 1000, each of which holds at most 3000 panes.";
 
 /// What the command `explain` does.
 pub const EXPLAIN: &str = "Lists a program, and tells whether it is accepted.";

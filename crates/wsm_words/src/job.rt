@@ -52,10 +52,23 @@ pub struct RunJob {
     pub from: Option<String>,
     /// The file of what is counted, written at the end; none where none is asked for.
     pub metrics: Option<String>,
+    /// Which keys a query without a KEYS clause has.
+    pub keys: Named,
     /// The file of the query or the program.
     pub query: String,
     /// The file of the rows or of the log; standard input where none is named, or `-`.
     pub rows: Option<String>,
+}
+
+/// Which keys a query without a KEYS clause has, each number as the words say it.
+#[derive(Debug, Drop)]
+pub struct Named {
+    /// The file of the names; none where the query's text has the keys.
+    pub file: Option<String>,
+    /// Whether a name that comes in a record is a key from then on.
+    pub takes_new: bool,
+    /// How many there may be; as many as there is memory for where it isn't said.
+    pub most: Option<String>,
 }
 
 /// To write the program of a query.
@@ -83,6 +96,8 @@ pub struct VerifyJob {
     pub query: bool,
     /// The file of the source that is judged too; none where the program alone is judged.
     pub from: Option<String>,
+    /// For how many keys a query without a KEYS clause is judged; none where the file has the keys.
+    pub keys: Option<String>,
     /// The file of the program or the query.
     pub program: String,
 }

@@ -16,8 +16,8 @@
 #![tactic(auto)]
 
 pub use job::{
-    Agreement, CompileJob, DealJob, ExplainJob, Job, KeepJob, LiveJob, MigrateJob, RowsJob, RunJob,
-    VerifyJob, WatermarksJob,
+    Agreement, CompileJob, DealJob, ExplainJob, Job, KeepJob, LiveJob, MigrateJob, Named, RowsJob,
+    RunJob, VerifyJob, WatermarksJob,
 };
 pub use refusal::WordsRefusal;
 pub use words::command_of;

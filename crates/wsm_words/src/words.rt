@@ -22,8 +22,8 @@ use clap::ArgMatches;
 use std::alloc::Global;
 
 /// The job that the words ask for, the program's own name first among them. A subcommand is
-/// required: `run [--program] [--from SOURCE] [--metrics FILE] QUERY [ROWS]`, `compile QUERY OUT`, `migrate PROGRAM OUT`,
-/// `verify [--query] [--from SOURCE] PROGRAM`, `explain [--json] [--query] PROGRAM`,
+/// required: `run [--program] [--from SOURCE] [--metrics FILE] [--keys FILE] [--new-keys] [--most-keys N] QUERY [ROWS]`,
+/// `compile QUERY OUT`, `migrate PROGRAM OUT`, `verify [--query] [--from SOURCE] [--keys N] PROGRAM`, `explain [--json] [--query] PROGRAM`,
 /// `deal [--keys-of] KEYS PARTS OUT [ROWS]`, `rows [--program] SOURCE QUERY [LOG]`,
 /// `keep [--program] [--taken LINES] [--most BYTES] QUERY [ROWS]`, `watermarks [--program] [--agree K] --bound BOUND
 /// [--step STEP] [--forget N] [--room N] [--source NAME] [--once CELL] [--last] [--metrics FILE] QUERY [ROWS]` or

@@ -12,13 +12,14 @@ use crate::refusal::WordsRefusal;
 use clap::{ArgMatches, Command};
 use std::alloc::{AllocError, Global};
 
-/// `verify [--query] [--from SOURCE] PROGRAM`
+/// `verify [--query] [--from SOURCE] [--keys N] PROGRAM`
 pub fn verify_command<'a>(alloc: Global) -> Result<Command<'a>, AllocError>
     ensures { IfOk result (λ c. app_of c ≡ verify_app) }
 {
     let verify = command(alloc, "verify", help::VERIFY, help::VERIFY_EXAMPLE)
         .arg(flag(alloc, "query", help::IS_QUERY))?
         .arg(option(alloc, "from", "SOURCE", help::FITS))?
+        .arg(option(alloc, "keys", "N", help::KEY_COUNT))?
         .arg(file(alloc, "program", "PROGRAM", help::PROGRAM_OR_QUERY))?;
     Ok(verify)
 }
@@ -30,10 +31,12 @@ pub fn verify_job(alloc: Global, inner: &ArgMatches<'_>) -> Result<Job, WordsRef
 {
     let query = flag_of(inner, "query");
     let from = option_of(alloc, inner, "from")?;
+    let keys = option_of(alloc, inner, "keys")?;
     let program = file_of(alloc, inner, "program")?;
     Ok(Job::Verify(VerifyJob {
         query,
         from,
+        keys,
         program,
     }))
 }

@@ -34,4 +34,5 @@ loop-place-preserved c =
       fits = ap₂ (λ (a b : Bool). a && b) c.loop-place.invariant.fits (c.in_ok-fits.ensures.fits value read) ∙ sym (ap (λ (vs : List Value). fit_fields (take (place + 1) fields) (take (place + 1) vs)) put ∙ fits-put fields old place (field_seen c.index-fields-place.result) value field below);
       count = c.in_ok-fits.ensures.count ∙ c.loop-place.invariant.count;
       kept = rw c.in_ok-fits.ensures.room c.loop-place.invariant.kept;
+      few = rw c.in_ok-fits.ensures.room c.loop-place.invariant.few;
     }

@@ -1,4 +1,4 @@
-use Rattle.std.proofs.Common.{◌≡◌, ◌≤◌, length, drop, take, map, vec_capacity}
+use Rattle.std.proofs.Common.{◌≡◌, ◌≤◌, length, drop, take, map, max, vec_capacity}
 use Rattle.csv.specs.Records.{fields_of}
 use Rattle.wsm_record.specs.Fields.{field_seen}
 use Rattle.wsm_record.specs.Schema.{fit_fields}
@@ -13,4 +13,5 @@ invariant-loop-place l = record {
   fits : l.fits ≡ fit_fields (take l.place (map field_seen l.fields)) (take l.place l.values.items);
   count : length l.values.items ≡ length l.fields;
   kept : vec_capacity l.fn.values ≤ vec_capacity l.values;
+  few : vec_capacity l.values ≤ max (vec_capacity l.fn.values) (length l.fields);
 }

@@ -1,13 +1,13 @@
 use Rattle.std.proofs.Common.{rules, to_z-of_z, w64, SFits, ◌≡◌, ◌++◌, ◌∷◌, [], List, ℕ, codes, map}
 use Rattle.std.specs.Fmt.{signed_decimal}
-use Rattle.wsm_semantics.specs.Text.{cell_text, joined, kind_word, name_at}
+use Rattle.wsm_semantics.specs.Text.{cell_text, joined, kind_word}
 use Rattle.wsm_csv.specs.Lines.{cells_text}
 use Rattle.wsm_csv.proofs.LineLemmas.{joined-split, joined-word, on_ok}
 use Rattle.wsm_csv.proofs.text.add_row.Goals as goal
 
 pub returns-in_ok-add_pane-in-Pane : goal.returns-in_ok-add_pane-in-Pane
 returns-in_ok-add_pane-in-Pane c =
-    let front : List (List ℕ) = kind_word c.in-Pane.kind ∷ name_at c.args.schema.now.keys c.in-Pane.key ∷ [] in
+    let front : List (List ℕ) = kind_word c.in-Pane.kind ∷ c.args.name.now ∷ [] in
     let window : List (List ℕ) = signed_decimal c.in-Pane.window.start ∷ signed_decimal c.in-Pane.window.end ∷ [] in
     let back = window ++ map (cell_text c.args.schema.now) c.in-Pane.columns in
     rw c.in-Pane.is (on_ok c.add_window.result
@@ -39,7 +39,7 @@ returns-in-Rstream c =
 
 pub returns-in_ok-add_withdrawn-in-Retract : goal.returns-in_ok-add_withdrawn-in-Retract
 returns-in_ok-add_withdrawn-in-Retract c =
-    let front : List (List ℕ) = name_at c.args.schema.now.keys c.in-Retract.key ∷ [] in
+    let front : List (List ℕ) = c.args.name.now ∷ [] in
     let window : List (List ℕ) = signed_decimal c.in-Retract.window.start ∷ signed_decimal c.in-Retract.window.end ∷ [] in
     let back = window ++ map (cell_text c.args.schema.now) c.in-Retract.columns in
     rw c.in-Retract.is (on_ok c.add_window-in-Retract.result

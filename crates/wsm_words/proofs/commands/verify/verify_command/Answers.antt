@@ -6,4 +6,5 @@ pub returns : goal.returns
 returns c =
     let flagged = c.in_ok-arg.ensures.shape c.flag.ensures.local ∙ ap₂ with_rule c.command.ensures c.flag.ensures.rule in
     let sourced = c.in_ok-arg-2.ensures.shape c.option.ensures.local ∙ ap₂ with_rule flagged c.option.ensures.rule in
-    c.in_ok-verify.ensures.shape c.file.ensures.local ∙ ap₂ with_rule sourced c.file.ensures.rule
+    let keyed = c.in_ok-arg-3.ensures.shape c.option-2.ensures.local ∙ ap₂ with_rule sourced c.option-2.ensures.rule in
+    c.in_ok-verify.ensures.shape c.file.ensures.local ∙ ap₂ with_rule keyed c.file.ensures.rule

@@ -1,12 +1,14 @@
-use Rattle.std.proofs.Common.{◌≡◌, ◌∙◌, sym, ap, subst, Some, List, ℕ}
+use Rattle.std.proofs.Common.{◌≡◌, ◌∙◌, sym, ap, subst, drop, Some, List, ℕ}
 use Rattle.std.proofs.lemmas.Result.{err_from_is_err_and}
 use Rattle.csv.specs.Records.{fields_of}
 use Rattle.wsm_record.specs.Schema.{Declared}
 use Rattle.wsm_csv.specs.declared.row.Tag.{Tag}
 use Rattle.wsm_csv.specs.declared.row.Tag.TheVariants.{Record, Watermark}
 use Rattle.wsm_csv.specs.Tags.{row_tag}
+use Rattle.wsm_csv.specs.KeyedRows.{said_from}
 use Rattle.wsm_csv.proofs.CellLemmas.{TagDecides, row_tag-decides}
-use Rattle.wsm_csv.proofs.event_reader.EventReader.read.Goals as goal
+use Rattle.wsm_csv.proofs.KeyedLemmas.{mark_from}
+use Rattle.wsm_csv.proofs.event_reader.EventReader.read_from.Goals as goal
 
 decides : (d : Declared) (cells : List (List ℕ)) (t k : Tag) → Some t ≡ row_tag cells → t ≡ k → TagDecides d cells (Some k)
 decides d cells t k e h = subst (TagDecides d cells) (sym e ∙ ap Some h) (row_tag-decides d cells)
@@ -21,7 +23,7 @@ returns-in_err-read_watermark-in-Some-Watermark-clause-fault c =
 pub returns-in_ok-self-in-Some-Record-clause-event : goal.returns-in_ok-self-in-Some-Record-clause-event
 returns-in_ok-self-in-Some-Record-clause-event c =
     let is = decides c.args.schema.now (fields_of c.args.row.now) _ Record c.in-Some-Record.ensures c.in-Some-Record.field-0-is in
-    is.0 ∙ (c.in_ok-self-in-Some-Record).ensures.event
+    ap (said_from c.args.from) is.0 ∙ (c.in_ok-self-in-Some-Record).ensures.event
 
 pub returns-in_err-self-in-Some-Record-clause-fault : goal.returns-in_err-self-in-Some-Record-clause-fault
 returns-in_err-self-in-Some-Record-clause-fault c =
@@ -36,7 +38,10 @@ returns-in_err-self-in-Some-Record-clause-memory c refused =
 pub returns-in_ok-read_watermark-in-Some-Watermark-clause-event :
     goal.returns-in_ok-read_watermark-in-Some-Watermark-clause-event
 returns-in_ok-read_watermark-in-Some-Watermark-clause-event c =
-    decides c.args.schema.now (fields_of c.args.row.now) _ Watermark c.in-Some-Watermark.ensures c.in-Some-Watermark.field-0-is ∙ (c.in_ok-read_watermark-in-Some-Watermark).ensures.event
+    let d = c.args.schema.now in
+    let cells = fields_of c.args.row.now in
+    ap (said_from c.args.from) (decides d cells _ Watermark c.in-Some-Watermark.ensures c.in-Some-Watermark.field-0-is)
+    ∙ mark_from c.args.from d.sources (drop 1 cells) _ (c.in_ok-read_watermark-in-Some-Watermark).ensures.event
 
 pub returns-in-None-clause-fault : goal.returns-in-None-clause-fault
 returns-in-None-clause-fault c =

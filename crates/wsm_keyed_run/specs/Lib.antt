@@ -1,0 +1,4 @@
+pub mod Keyed
+pub mod Written
+pub mod Turns
+pub mod Places

@@ -1,0 +1,10 @@
+mod Arranged
+mod FedSlots
+mod Feeding
+mod Openers
+mod Parted
+mod PlacedRows
+mod ReadyEngines
+mod RowPlaces
+mod TurnRows
+mod Turns

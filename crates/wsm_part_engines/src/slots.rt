@@ -1,0 +1,123 @@
+//! Engines by the numbers of their parts.
+
+ghost use Rattle.std.specs.Prelude.{◌≡◌, ◌↔◌, ◌<◌, ◌≤◌, ◌^◌, ℕ, length, Some, None, IsSome, IsTrue, OnOk, OnErr};
+ghost use Rattle.wsm_record.specs.Event.{event_of};
+ghost use Rattle.wsm_part_engines.specs.Fits.{engine_at};
+ghost use Rattle.wsm_part_engines.specs.Slots.{Feeds, FeedsAll, FeedsOne, IsJudged, Puts, one_if_some, open_count, rows_of};
+
+use std::alloc::AllocError;
+use wsm_engine::Engine;
+use wsm_record::Event;
+use wsm_semantics::OutRow;
+
+/// Whether a part has an engine.
+pub fn is_open(slots: &[Option<Engine>], part: usize) -> bool
+    ensures { IsTrue result ↔ IsSome (engine_at slots.now part) }
+{
+    match slots.get(part) {
+        Some(slot) => slot.is_some(),
+        None => false,
+    }
+}
+
+/// How many parts have an engine.
+pub fn count_open(slots: &[Option<Engine>]) -> usize
+    ensures { result ≡ open_count slots.now }
+{
+    let mut open = 0;
+    for slot in slots {
+        open += one_if_open(slot);
+    }
+    open
+}
+
+fn one_if_open(slot: &Option<Engine>) -> usize
+    ensures count { result ≡ one_if_some slot.now }
+    ensures most { result ≤ 1 }
+{
+    match slot {
+        Some(_) => 1,
+        None => 0,
+    }
+}
+
+/// Puts an engine there for a part that has none.
+pub fn put(slots: &mut Vec<Option<Engine>>, part: usize, engine: Engine) -> Result<(), AllocError>
+    requires part { part < 2 ^ 32 }
+    requires few { length slots.old.items ≤ 2 ^ 32 }
+    ensures few { length slots.new.items ≤ 2 ^ 32 }
+    ensures put { OnOk result (Puts part engine slots.old.items slots.new.items) }
+    ensures same { OnErr result ((other : ℕ) → engine_at slots.new.items other ≡ engine_at slots.old.items other) }
+{
+    make_room(slots, part)?;
+    slots[part] = Some(engine);
+    Ok(())
+}
+
+// Makes room for the engine of a part, and of all before it.
+fn make_room(slots: &mut Vec<Option<Engine>>, part: usize) -> Result<(), AllocError>
+    requires part { part < 2 ^ 32 }
+    requires few { length slots.old.items ≤ 2 ^ 32 }
+    ensures few { length slots.new.items ≤ 2 ^ 32 }
+    ensures room { OnOk result (part < length slots.new.items) }
+    ensures same { (other : ℕ) → engine_at slots.new.items other ≡ engine_at slots.old.items other }
+{
+    while slots.len() <= part {
+        slots.push(None)?;
+    }
+    Ok(())
+}
+
+/// Feeds the engine of a part an event, and answers how many panes fire.
+pub fn feed_one(slots: &mut [Option<Engine>], part: usize, event: &Event, values_fit: bool) -> u64
+    requires { IsJudged values_fit (event_of event.now) (engine_at slots.old part) }
+    ensures { FeedsOne part slots.old slots.new (event_of event.now) result }
+{
+    if part < slots.len() {
+        feed_slot(&mut slots[part], event, values_fit)
+    } else {
+        0
+    }
+}
+
+/// Feeds each engine an event, and answers how many panes fire together, at most the greatest `u64`.
+pub fn feed_all(slots: &mut [Option<Engine>], event: &Event, values_fit: bool) -> u64
+    requires { (part : ℕ) → IsJudged values_fit (event_of event.now) (engine_at slots.old part) }
+    ensures { FeedsAll slots.old slots.new (event_of event.now) result }
+{
+    let mut fired = 0u64;
+    for slot in slots.iter_mut() {
+        fired = fired.saturating_add(feed_slot(slot, event, values_fit));
+    }
+    fired
+}
+
+// Feeds an engine an event, if there is one.
+fn feed_slot(slot: &mut Option<Engine>, event: &Event, values_fit: bool) -> u64
+    requires { IsJudged values_fit (event_of event.now) slot.old }
+    ensures { Feeds slot.old slot.new (event_of event.now) result }
+{
+    match slot {
+        Some(engine) => engine.feed_judged(event, values_fit).fired,
+        None => 0,
+    }
+}
+
+/// The rows of the last event that the engine of a part was fed, if it has one.
+pub fn rows(slots: &[Option<Engine>], part: usize) -> &[OutRow]
+    ensures { result.now ≡ rows_of (engine_at slots.now part) }
+{
+    match slots.get(part) {
+        Some(slot) => rows_of_slot(slot),
+        None => &[],
+    }
+}
+
+fn rows_of_slot(slot: &Option<Engine>) -> &[OutRow]
+    ensures { result.now ≡ rows_of slot.now }
+{
+    match slot {
+        Some(engine) => engine.rows(),
+        None => &[],
+    }
+}
