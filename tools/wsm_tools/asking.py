@@ -6,7 +6,8 @@ from __future__ import annotations
 
 import os
 import re
-from typing import IO, TYPE_CHECKING, Any, Dict, FrozenSet, List, NamedTuple, Optional, Sequence
+from functools import cache
+from typing import IO, TYPE_CHECKING, Any, Dict, FrozenSet, List, NamedTuple, Optional, Sequence, Union
 
 from .telling import BAD_QUERY, BAD_READ, BAD_WORDS, REJECTED, Ended, shown
 
@@ -14,7 +15,7 @@ if TYPE_CHECKING:
     from subprocess import CompletedProcess
 
 TOP = os.path.dirname(os.path.dirname(os.path.dirname(os.path.realpath(__file__))))
-LONGEST_WINDOW = 10**12
+NO_LIMIT = 2**63 - 1
 
 
 def lies_at(*names: str) -> str:
@@ -26,6 +27,13 @@ def program() -> str:
     """The program that the variable WSM names, or the one beside the tools' folder, or that on PATH."""
     beside = lies_at("wsm")
     return os.environ.get("WSM") or (beside if os.path.exists(beside) else "wsm")
+
+
+def there() -> Optional[str]:
+    """The program that WSM names, or that stands beside the tools' folder. The script of a checkout isn't asked to build it."""
+    built, beside = lies_at("crates/wsm_cli/out/wsm_cli"), lies_at("wsm")
+    found = built if os.path.exists(lies_at("crates")) else beside
+    return os.environ.get("WSM", found if os.path.exists(found) else "") or None
 
 
 def asked_of(wsm: str, *words: str) -> CompletedProcess[str]:
@@ -73,6 +81,22 @@ class Column(NamedTuple):
     way: str  # how columns of two panes that share no record come to that of both: sum, least, greatest, same or not
 
 
+class Limits(NamedTuple):
+    """The most columns, fields and names of a query, the latest time, and the longest window."""
+    columns: int
+    fields: int
+    latest: int
+    longest: int
+    names: int
+
+
+@cache
+def limits() -> Limits:
+    """Those of the program that is there; without one there are none."""
+    wsm = there()
+    return Answer(wsm, "").limits if wsm else Limits(*[NO_LIMIT] * 5)
+
+
 class Answer:
     """What the program says of a text, which it may refuse."""
 
@@ -87,6 +111,7 @@ class Answer:
         self.status = ran.returncode
         self.said: Dict[str, Any] = json.loads(ran.stdout)
         self.fault: Dict[str, Any] = self.said["fault"] or {}
+        self.limits = Limits(**self.said["limits"])
         begins = [0, *(found.end() for found in re.finditer("\n", text))]
         self.parts: List[Part] = []
         for part in self.said["parts"] or []:
@@ -134,12 +159,20 @@ class Query:
         self.form: str = firing["form"]
         self.early: Optional[int] = firing["early"]
         self.late: Optional[int] = firing["late"]
+        self.kinds = [*["early"] * bool(self.early), "on_time", *["late"] * bool(self.late), "final"]  # of panes
         self.columns = [
             Column(" ".join(part.text.split()), kind["type"], self.names_of(kind), way)
             for part, kind, way in zip(answer.those("column"), output["columns"], answer.said["joins"])
         ]
         self.where, self.having = answer.one("where"), answer.one("having")
         self.sum = int(answer.said["sum"])
+
+    def has_window(self, window: Sequence[Union[str, int]]) -> bool:
+        """Whether it has a window from one time up to another one."""
+        begins, ends = map(int, window)
+        if self.shape == "SESSION":
+            return ends - begins >= self.size
+        return ends - begins == self.size and begins % self.period == 0
 
     def names_of(self, kind: Dict[str, Any]) -> Sequence[str]:
         number = int(kind.get("enum", -1))
@@ -195,7 +228,7 @@ def selected(query: Query, wsm: str, words: Sequence[str], rows: str, end: bytes
     Each is counted by its firing, and no pane is written: so the end row has as PANES how many there are, and else what
     the end row of the query's own run has.
     """
-    size = query.size if query.from_window else max(1, min(LONGEST_WINDOW, query.skew + query.lateness))
+    size = query.size if query.from_window else max(1, min(query.answer.limits.longest, query.skew + query.lateness))
     with written(selecting(query, f"FIXED {size}", "HAVING COUNT(*) < 0")) as file:
         ran = asked_of(wsm, "run", *words, file.name, rows)
     if ran.returncode:

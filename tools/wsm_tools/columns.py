@@ -4,7 +4,7 @@ from __future__ import annotations
 import re
 from itertools import groupby
 from operator import itemgetter
-from typing import Dict, FrozenSet, List, Optional, Sequence, Tuple, Type, Union
+from typing import Any, Callable, Dict, List, Optional, Sequence, Tuple, Type, Union
 
 from .asking import Column, Query
 from .tables import File, Server, Work
@@ -12,7 +12,6 @@ from .telling import BAD_QUERY, BAD_WORDS, Ended
 
 NAME = "[A-Za-z_][A-Za-z0-9_]{0,62}"
 WINDOW = ("key", "begins", "ends")
-KINDS = ("early", "on_time", "late", "final")
 WHOLE = "-?[0-9]{1,20}"
 EVERY = slice(None)
 CELLS = {"INT": WHOLE, "BOOL": "true|false", "ENUM": NAME}
@@ -35,7 +34,7 @@ def names_of(query: Query) -> List[str]:
     return [name if name and names.index(name) == at else f"column{at + 1}" for at, name in enumerate(names)]
 
 
-Names = Sequence[Tuple[int, FrozenSet[str]]]
+Check = Tuple[Callable[[Sequence[str]], Any], Callable[[Any], bool]]  # what is seen of a line's cells, and whether that may be
 
 
 def tag_of(line: str) -> str:
@@ -43,12 +42,12 @@ def tag_of(line: str) -> str:
 
 
 class Kind:
-    """The lines of a tag: a pattern with a group for each cell that is used, which cells are names and of which, and the
+    """The lines of a tag: a pattern with a group for each cell that is used, what else is asked of these, and the
     statements of a line, each with the cells that it takes."""
 
-    def __init__(self, pattern: str, named: Names, statements: Sequence[Tuple[str, slice]]) -> None:
+    def __init__(self, pattern: str, checks: Sequence[Check], statements: Sequence[Tuple[str, slice]]) -> None:
         self.match = re.compile(pattern).fullmatch
-        self.named, self.statements = named, statements
+        self.checks, self.statements = checks, statements
 
     def rows(self, lines: Sequence[str]) -> List[Tuple[str, ...]]:
         """The cells of lines, up to the first that isn't one of these."""
@@ -57,9 +56,9 @@ class Kind:
             if found is None:
                 break
             rows.append(found.groups())
-        for at, names in self.named:
-            if not names.issuperset(map(itemgetter(at), rows)):
-                rows = rows[: next(number for number, row in enumerate(rows) if row[at] not in names)]
+        for seen, may_be in self.checks:
+            if strange := {one for one in set(map(seen, rows)) if not may_be(one)}:
+                rows = rows[: next(number for number, row in enumerate(rows) if seen(row) in strange)]
         return rows
 
     def works(self, rows: Sequence[Tuple[str, ...]]) -> List[Work]:
@@ -123,19 +122,28 @@ class Form:
         """What the cells of the columns are, as a pattern with a group for each."""
         return "".join(f",({CELLS[column.kind]})" for column in self.query.columns)
 
+    def checks(self, front: int) -> List[Check]:
+        """What is asked of the cells of lines, of which so many stand in front of those of the columns."""
+        checks: List[Check] = [
+            (itemgetter(at), frozenset(column.names).__contains__)
+            for at, column in enumerate(self.query.columns, front) if column.kind == "ENUM"
+        ]
+        if not self.is_stream:
+            checks.append((itemgetter(front - 3), self.query.key_set.__contains__))
+            checks.append((itemgetter(front - 2, front - 1), self.query.has_window))
+        return checks
+
     def kinds_of_lines(self) -> Dict[str, Kind]:
         """What the lines of each tag are and do."""
-        front = 1 if self.is_stream else 3
-        named = [(at, frozenset(column.names)) for at, column in enumerate(self.query.columns, front) if column.kind == "ENUM"]
-        if self.is_stream:
-            return {self.table: Kind(f"{self.table},({WHOLE}){self.cells()}", named, [(self.insertion, EVERY)])}
-        window = f"({NAME}),({WHOLE}),({WHOLE})"
-        named.insert(0, (0, self.query.key_set))
         put = (self.insertion, EVERY)
+        if self.is_stream:
+            return {self.table: Kind(f"{self.table},({WHOLE}){self.cells()}", self.checks(1), [put])}
+        window = f"({NAME}),({WHOLE}),({WHOLE})"
         puts = [(GROWN_OUT_OF, slice(1, 4)), put] if self.is_grown else [put]
-        panes = Kind(f"pane,({'|'.join(KINDS)}),{window}{self.cells()}", [(at + 1, names) for at, names in named], puts)
-        retracts = Kind(f"retract,{window}{self.cells()}", named, [(RETRACTED, slice(0, 3))])
-        return {"pane": panes, "retract": retracts} if self.query.mode == "RETRACTING" else {"pane": panes}
+        kinds = {"pane": Kind(f"pane,({'|'.join(self.query.kinds)}),{window}{self.cells()}", self.checks(4), puts)}
+        if self.query.mode == "RETRACTING":
+            kinds["retract"] = Kind(f"retract,{window}{self.cells()}", self.checks(3), [(RETRACTED, slice(0, 3))])
+        return kinds
 
     def works(self, lines: Sequence[str]) -> Tuple[List[Work], int]:
         """What lines do, and how many they are up to the first that is none of this query."""

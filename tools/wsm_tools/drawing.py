@@ -14,6 +14,7 @@ import subprocess
 from dataclasses import dataclass, field
 from datetime import datetime, timezone, tzinfo
 from html import escape
+from itertools import accumulate, groupby
 from typing import Any, Dict, Iterator, List, Optional, Sequence, Set, Tuple, Union
 
 from .asking import Query, query_of, selecting, written
@@ -30,6 +31,7 @@ COLORS = {"early": "#b8860b", "on_time": "#1f6fb2", "late": "#c2410c", "final": 
 WATERMARK, INK, GREY = "#b3003c", "#222222", "#777777"
 MARKS = ["#7a5195", "#008080", "#8a6d3b", "#555555"]  # of the sources
 WIDEST = HIGHEST = 3600  # points
+LONGEST_TEXT = 60  # letters of a row
 SPACES = [step * power for power in (10**n for n in range(16)) for step in (1, 2, 5)]  # between two times at the foot
 CLOCK_SPACES = [1, 2, 5, 10, 15, 30, 60, 120, 300, 600, 900, 1800, 3600, 7200, 21600, 43200, 86400]
 
@@ -154,6 +156,19 @@ def step(corners: List[Corner], row: int, time: int) -> None:
     corners += [(row, corners[-1][1]), (row, time)]
 
 
+def lines_of_rows(history: History, most: int) -> Dict[int, int]:
+    """The line of each row. Where there are more rows than lines, those that stand together and in which nothing came out
+    share one, the longest runs first."""
+    panes = {pane.row for pane in history.panes + history.withdrawn}
+    loud = panes | history.refusals.keys() | {record.row for record in history.records if record.fate != "admitted"}
+    quiet = [list(run) for is_quiet, run in groupby(history.rows, lambda row: row not in loud) if is_quiet]
+    folded: Set[int] = set()
+    for run in sorted(quiet, key=len, reverse=True):
+        if len(history.rows) - len(folded) > most:
+            folded.update(run[1:])
+    return dict(zip(history.rows, accumulate(row not in folded for row in history.rows)))
+
+
 # ---- how wide it is
 
 @dataclass
@@ -248,29 +263,38 @@ def length_of(text: str, size: float = 11, is_bold: bool = False) -> float:
 class Picture:
     def __init__(self, history: History, frame: Frame, is_whole: bool, title: Sequence[str]) -> None:
         self.history, self.frame, self.is_whole = history, frame, is_whole
-        self.lines = {number: at for at, number in enumerate(history.rows, 1)}
-        longest = max(len(self.row_text(number)) for number in history.rows)
+        self.lines = lines_of_rows(history, HIGHEST // STEP - 1)
+        self.on_line = {line: list(rows) for line, rows in groupby(history.rows, self.lines.__getitem__)}
+        self.count = len(self.on_line)
+        longest = max(map(len, map(self.line_text, self.on_line.values())))
         self.left = max(LEFT, 24 + 6.1 * longest)
         last = frame.last - (frame.last - frame.first) % frame.space
         self.width = max(self.across(frame.last) + RIGHT, self.across(last) + length_of(frame.text_of(last), 10) / 2 + 4)
         self.title = [line for clauses in title for line in wrapped(clauses, self.width - 24)]
         self.above = ABOVE + TITLE_STEP * len(self.title)
-        self.step = min(STEP, HIGHEST / (len(history.rows) + 1))
-        self.floor = self.above + (len(history.rows) + 1) * self.step
+        self.step = min(STEP, HIGHEST / (self.count + 1))
+        self.floor = self.above + (self.count + 1) * self.step
         self.height = self.floor + BELOW
         self.parts: List[str] = []
         self.labels = Labels(self.width, self.height)
 
-    def row_text(self, number: int) -> str:
-        """The row as it stands at the left, with its number where rows are left out."""
-        return self.history.rows[number] if self.is_whole else f"{number}: {self.history.rows[number]}"
+    def line_text(self, rows: Sequence[int]) -> str:
+        """What stands at the left of a line: its row, with the number where rows are left out; or how many share it."""
+        if len(rows) > 1:
+            return f"{len(rows)} rows, {rows[0]} to {rows[-1]}"
+        text = self.history.rows[rows[0]] if self.is_whole else f"{rows[0]}: {self.history.rows[rows[0]]}"
+        return text if len(text) <= LONGEST_TEXT else f"{text[:LONGEST_TEXT - 2]}.."
+
+    def is_close(self, row: int) -> bool:
+        """Whether a row has no line of its own, or one that is too low for a large circle."""
+        return self.step < 20 or len(self.on_line[self.lines[row]]) > 1
 
     def across(self, time: int) -> float:
         return self.left + (min(max(time, self.frame.first), self.frame.last) - self.frame.first) * self.frame.scale
 
     def up(self, row: float) -> float:
         if row not in self.lines:  # before the first row, or behind the last one
-            return self.floor - (len(self.lines) + 0.7 if row else 0) * self.step
+            return self.floor - (self.count + 0.7 if row else 0) * self.step
         return self.floor - self.lines[int(row)] * self.step
 
     def add(self, tag: str, text: Optional[str] = None, **attributes: Union[str, Number]) -> None:
@@ -281,13 +305,13 @@ class Picture:
         self.add("text", text, x=x, y=y, font_size=size, text_anchor=anchor, fill=color, **more)
 
     def label(self, pieces: Sequence[Piece], places: Sequence[Place], color: str = INK) -> None:
-        """A label of pieces at the first free of some places. Where rows stand closer together and none is free, it is
-        left out."""
+        """A label of pieces at the first free of some places. Where rows share lines or stand closer together and none is
+        free, it is left out."""
         sizes = [float(own.get("font_size", 11)) for _, own in pieces]
         width: float = sum((length_of(text, size, "font_weight" in own) for (text, own), size in zip(pieces, sizes)), 0.0)
         height = max(sizes) + 1
         tops = [(x - width if anchor == "end" else x - width / 2 if anchor == "middle" else x, y - height + 2.5) for x, y, anchor in places]
-        if self.step < STEP and 0 < min(self.labels.over(place, width, height) for place in tops):
+        if len(self.lines) >= HIGHEST // STEP and 0 < min(self.labels.over(place, width, height) for place in tops):
             return
         x, y = self.labels.put(tops, width, height)
         _, base, anchor = places[tops.index((x, y))]
@@ -310,10 +334,10 @@ class Picture:
         self.add("line", x1=self.left, y1=self.floor, x2=right, y2=self.floor, stroke=GREY, stroke_width=1)
         self.write("event time", right, self.floor + 46, anchor="end", color=GREY)
         self.write("rows, as they arrive, upwards", 12, self.floor + 46, color=GREY)
-        for number in [*self.history.rows][::math.ceil(ROW_TEXT / self.step)]:
-            text = escape(self.row_text(number))
-            self.write(text, 12, self.up(number) + 3, size=10, color=GREY, font_family="monospace")
-            self.labels.take(12, self.up(number) - 7, 6.1 * len(self.row_text(number)), 12)
+        for rows in [*self.on_line.values()][::math.ceil(ROW_TEXT / self.step)]:
+            text, y = self.line_text(rows), self.up(rows[0])
+            self.write(escape(text), 12, y + 3, size=10, color=GREY, font_family="monospace")
+            self.labels.take(12, y - 7, 6.1 * len(text), 12)
 
     # ---- panes
 
@@ -385,11 +409,15 @@ class Picture:
         middle = (left + right) / 2
         self.label([(str(record.mark - behind), {})], [(middle, y - 4, "middle"), (middle, y + 12, "middle"), (right + 4, y + 4, "start")])
 
+    def radius_of(self, record: Record) -> int:
+        """Its values have room in a large circle on a line of its own."""
+        return 9 if len(record.text) <= 3 and not self.is_close(record.row) else 5
+
     def circle(self, record: Record) -> None:
         x, y = self.across(record.time), self.up(record.row)
         is_in = record.fate == "admitted"
         color = INK if is_in and record.is_selected else GREY
-        radius = radius_of(record)
+        radius = self.radius_of(record)
         dash: Dict[str, Any] = {} if record.is_selected else {"stroke_dasharray": "3 2"}
         self.add("circle", cx=x, cy=y, r=radius, fill="#ffffff", stroke=color, stroke_width=1.3, **dash)
         if radius == 9:
@@ -400,7 +428,7 @@ class Picture:
 
     def beside(self, record: Record) -> None:
         """What is said beside the circle of a record: its values where they have no room in it, and why it isn't in."""
-        x, y, radius = self.across(record.time), self.up(record.row), radius_of(record)
+        x, y, radius = self.across(record.time), self.up(record.row), self.radius_of(record)
         is_in = record.fate == "admitted"
         pieces: List[Piece] = [(record.text + (" " if not is_in else ""), {})] if radius < 9 else []
         pieces += [(record.fate, {"fill": WATERMARK})] if not is_in else []
@@ -425,10 +453,6 @@ class Picture:
 
 def short(value: Union[str, Number]) -> Union[str, Number]:
     return f"{value:.1f}".removesuffix(".0") if isinstance(value, float) else value
-
-
-def radius_of(record: Record) -> int:
-    return 9 if len(record.text) <= 3 else 5
 
 
 def spanned(text: str, own: Dict[str, Union[str, Number]]) -> str:

@@ -8,12 +8,12 @@ import re
 import unicodedata
 from typing import Dict, Iterable, List, Mapping, Optional, Sequence, Set, Tuple, Union
 
-from .asking import names_among
+from .asking import limits, names_among
 from .logs import ODD, Cells, Number, Odd
 from .telling import BAD_WORDS, Ended, printable
 from .times import form_of
 
-MOST_NAMES, MOST_FIELDS, MOST_WORDS = 1000, 16, 50
+MOST_WORDS = 50
 MOST_SAMPLES = 2000  # texts by which a form of times is found
 FEW = 8  # texts that are few in however few lines
 LONGEST_KEY = 255  # bytes
@@ -170,7 +170,7 @@ class Column:
             numbers.take(text)
         if self.count == MOST_SAMPLES:  # what hardly is a column of numbers till here, is none
             self.tried = [numbers for numbers in self.tried if 2 * numbers.count > self.count]
-        if text in self.texts or len(self.texts) <= MOST_NAMES:
+        if text in self.texts or len(self.texts) <= limits().names:
             self.texts[str(text)] = self.texts.get(text, 0) + 1
         else:
             self.is_many = True
@@ -239,7 +239,7 @@ def key_of(columns: Dict[str, Column], said: Optional[str], time: Column, record
     def fits(column: Column) -> bool:
         is_text = not column.numbers and column.pair() is None
         is_there = 2 * column.count > records and column.odd == 0
-        return column is not time and is_text and is_there and not column.is_many and column.has_few(MOST_NAMES)
+        return column is not time and is_text and is_there and not column.is_many and column.has_few(limits().names)
 
     # A column that most lines have goes before one that all have and that tells how something went, or always the same.
     def rank(column: Column) -> Tuple[bool, bool, bool, int]:
@@ -324,7 +324,7 @@ def why_not(column: Column) -> Optional[str]:
     if "" in column.texts:
         return "an empty text stands there"
     if column.is_many or not column.has_few(MOST_WORDS):
-        return "too many texts for an ENUM" if not column.is_many else f"more than {MOST_NAMES} texts"
+        return "too many texts for an ENUM" if not column.is_many else f"more than {limits().names} texts"
     return f"always {printable(next(iter(column.texts)))[:40]}" if len(column.texts) == 1 else None
 
 
@@ -336,8 +336,8 @@ def fields_of(columns: Dict[str, Column], others: Set[str], records: int, left: 
     names = {column.place for column in some if known.has(column.place)}
     for column in some:
         why = why_not(column)
-        if why is None and len(found) == MOST_FIELDS:
-            why = f"a query has at most {MOST_FIELDS} fields"
+        if why is None and len(found) == limits().fields:
+            why = f"a query has at most {limits().fields} fields"
         if why is not None:
             left.out(column.place, why)
             continue

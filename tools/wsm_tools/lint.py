@@ -27,12 +27,8 @@ if TYPE_CHECKING:
     from argparse import Namespace
 
 WIDEST = 100  # characters of a line that are shown
-AT_ONCE = 4  # questions that the program is asked side by side
 TENTHS = 18  # how often an interval is made a tenth of what it was
 UNITS = [2**10, 2**20, 2**30]  # by which a sum is parted in two
-MOST_COLUMNS = 16
-KINDS = {NAME: "zz", NUMBER: "7"}
-SIGNS = ", ; ( ) . .. + - * / % = <> < <= > >=".split()  # what is tried at a place
 MEND = {
     "aggregates": "Equal ones count each time that they are written. To bring it down, write each once and compute with the columns where "
                   "they are read, or ask two queries of the same rows (`tee`).",
@@ -117,7 +113,7 @@ def readable(text: str) -> str:
 
 
 def listed(asked: Sequence[str]) -> str:
-    words = [word if word in (*KINDS, END) else f"`{word}`" for word in asked]
+    words = [word if word in (NAME, NUMBER, END) else f"`{word}`" for word in asked]
     return words[0] if len(words) == 1 else f"{', '.join(words[:-1])} or {words[-1]}"
 
 
@@ -197,22 +193,6 @@ class Linter:
 
     # ---- texts that can't be read
 
-    def may_stand(self, at: int) -> List[str]:
-        """What may stand at a place: that behind which the program has another fault, or none."""
-        from concurrent.futures import ThreadPoolExecutor
-
-        before = self.text[:at]
-
-        def is_taken(word: str) -> bool:
-            answer = Answer(self.program, f"{before} {word}")
-            return "line" not in answer.fault or answer.place() > at + 1
-
-        words = [*KINDS.values(), *SIGNS, *self.reserved, ""]
-        names = {short: kind for kind, short in KINDS.items()}
-        names[""] = END
-        with ThreadPoolExecutor(AT_ONCE) as pool:
-            return [names.get(word, word) for word, taken in zip(words, pool.map(is_taken, words)) if taken]
-
     def of_text(self, name: str) -> None:
         at = self.answer.place()
         found = re.compile(r"\w+|[.<>=]+|.", re.S | re.ASCII).match(self.text, at)
@@ -221,7 +201,7 @@ class Linter:
         self.span = Span(at, at + max(1, len(token)))
         if name.startswith(("P3", "P4")):
             return
-        asked = self.asked = self.may_stand(at)
+        asked = self.asked = self.answer.fault["may_stand"]
         clauses = re.findall(r"[A-Z]+", (re.search(r"Clauses stand in one order: ([^.]*)", page("ERRORS.md")) or ["", ""])[1])
         if said := advice(Place(self.text, at, token, asked, self.reserved, clauses, is_byte)):
             self.sentences.append(said)
@@ -441,7 +421,7 @@ class Linter:
     def in_two(self, column: Part) -> None:
         """The whole units and the rest of a sum as two columns, by the smallest unit with which the program takes it."""
         whole, all_columns = re.fullmatch(r"SUM\s*\(\s*((?:[^()]|\([^()]*\))*?)\s*\)", column.text), self.answer.those("column")
-        if not whole or len(all_columns) == MOST_COLUMNS:
+        if not whole or len(all_columns) == self.answer.limits.columns:
             return
         value = whole[1] if re.fullmatch(r"\w+", whole[1]) else f"({whole[1]})"
         for unit in UNITS:

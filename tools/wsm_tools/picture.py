@@ -6,9 +6,9 @@ For example: picture --zone Europe/Berlin hot.wsm readings.csv oven > oven.svg
 
 QUERY is a query that writes panes, ROWS a file of at most 500 rows without quotes. Without KEY it is the query's
 first key. With --clock times are taken as seconds since 1970 and shown as hours and days, with --zone as those of a
-zone. No picture is higher than 4,000 points: where there are many rows they stand closer together, and labels that have no
-room are left out. PROGRAM is `wsm` at the top of the repository, or on PATH, where the variable WSM doesn't name it and
-it is left out.
+zone. No picture is higher than 4,000 points: of more than 99 rows those that stand together and in which nothing came out
+share a line, and where that isn't enough they stand closer together; labels that have no room are left out then. PROGRAM
+is `wsm` at the top of the repository, or on PATH, where the variable WSM doesn't name it and it is left out.
 """
 from __future__ import annotations
 

@@ -45,11 +45,12 @@ from bisect import bisect_left, insort
 from typing import TYPE_CHECKING, Callable, Dict, Iterable, Iterator, List, Mapping, NamedTuple, Optional, Sequence, Set, Tuple
 
 from . import asking, telling
-from .fields import LONGEST_KEY, MOST_NAMES, Column, Left, Names, columns_of, fields_of, key_of, names_for
+from .asking import limits
+from .fields import LONGEST_KEY, Column, Left, Names, columns_of, fields_of, key_of, names_for
 from .fields import Field as LogField
 from .fields import time_of as place_of_time
 from .logs import ODD, Cells, Odd, format_of, reader_of, text_of, whole_log
-from .rows import HEADER, LATEST, cleaned, lines_of, number_of, opened, time_in, time_of, whole
+from .rows import HEADER, cleaned, lines_of, number_of, opened, time_in, time_of, whole
 from .telling import BAD_WORDS, BAD_WRITE, Ended, printable, shown, tell, whole_number
 from .times import Zone, forms, has_zone
 
@@ -90,7 +91,7 @@ class Field:
         if number is not None:
             self.low = number if self.low is None else min(number, self.low)
             self.high = number if self.high is None else max(number, self.high)
-        elif cell in self.words or len(self.words) <= MOST_NAMES:
+        elif cell in self.words or len(self.words) <= limits().names:
             self.words[cell] = None
         elif self.strange is None:
             self.strange = cell
@@ -98,7 +99,7 @@ class Field:
     def clause(self, name: str, known: Names) -> Optional[str]:
         """Its clause, or None where it can't be a field."""
         known.learn(self.words)
-        strange = [word for at, word in enumerate(self.words) if at == MOST_NAMES or not known.has(word)]
+        strange = [word for at, word in enumerate(self.words) if at == limits().names or not known.has(word)]
         self.strange = strange[0] if strange else self.strange
         if self.strange is not None or self.words and self.low is not None or not self.words and self.low is None:
             return None
@@ -150,7 +151,7 @@ class Rows:
                 at += 1
                 is_near = greatest is not None and -behind <= event.time - greatest <= jump
                 is_ahead = greatest is None or event.time > greatest
-                if event.time > LATEST or not (is_near or is_ahead and most_agree(event.time, times[at:at + NEXT], jump)):
+                if event.time > limits().latest or not (is_near or is_ahead and most_agree(event.time, times[at:at + NEXT], jump)):
                     self.wrong.append((event.number, event.row))
                     continue
                 greatest = event.time if is_ahead else greatest
@@ -226,8 +227,8 @@ def clauses(rows: Rows, events: Iterable[Event], known: Names) -> List[str]:
     if strange:
         some = ", ".join(shown(key.encode("latin-1")) for key in strange[:10])
         tell(f"names that can't be keys: {len(strange)}: {some}{', ..' if len(strange) > 10 else ''}; a file of names of a source gives them keys")
-    if len(keys) > MOST_NAMES:
-        tell(f"{len(keys)} keys are more than the {MOST_NAMES} that a query has: docs/SCALING.md")
+    if len(keys) > limits().names:
+        tell(f"{len(keys)} keys are more than the {limits().names} that a query has: docs/SCALING.md")
     names = rows.names or [f"f{at}" for at in range(1, len(fields) + 1)]
     lines = [f"KEYS {', '.join(sorted(keys))};"] if keys else []
     for name, field in zip(names, fields):
@@ -251,7 +252,7 @@ def head_of_rows(rows: Rows, asked: Namespace) -> None:
     if records in (0, len(events)):
         raise Ended(f"{records} records, and no watermark: there must be some among the rows, or by BOUND and STEP"
                     if records else "there are no records that agree")
-    head = clauses(rows, events, Names(program()))
+    head = clauses(rows, events, Names(asking.there()))
     start = start_of(events)
     behind, skew, lateness = measured(events, start)
     print(f"{len(behind)} records, behind the greatest time by at most")
@@ -468,8 +469,8 @@ def keys_of(texts: Iterable[str], asked: Namespace, known: Names) -> Tuple[Dict[
     if strange and asked.source is None:
         tell(f"names that can't be keys: {len(strange)}: {named(strange)}; with --source a file of names gives them keys")
         names = {text: name for text, name in names.items() if known.has(text)}
-    if len(names) > MOST_NAMES:
-        tell(f"{len(names)} keys are more than the {MOST_NAMES} that a query has: docs/SCALING.md")
+    if len(names) > limits().names:
+        tell(f"{len(names)} keys are more than the {limits().names} that a query has: docs/SCALING.md")
     if not names:
         raise Ended("no text of the key is a name")
     return names, bool(strange) and asked.source is not None
@@ -489,7 +490,7 @@ def leave_wrong_out(found: Rows, texts: Dict[int, str], asked: Namespace) -> Opt
 
 
 def proposed(log: Log, asked: Namespace) -> Proposal:
-    known = Names(program())
+    known = Names(asking.there())
     columns, readable = columns_of(cells for _, cells in log.read() if cells is not None)
     if not columns:
         raise Ended(f"no line is {log.form}")
@@ -572,18 +573,11 @@ def written(path: str, text: str) -> None:
         raise Ended(f"{path}: {why.strerror}", BAD_WRITE) from None
 
 
-def program() -> Optional[str]:
-    """The program that WSM names, or that stands beside this tool's folder. The script of a checkout isn't asked to build it."""
-    built, beside = asking.lies_at("crates/wsm_cli/out/wsm_cli"), asking.lies_at("wsm")
-    found = built if os.path.exists(asking.lies_at("crates")) else beside
-    return os.environ.get("WSM", found if os.path.exists(found) else "") or None
-
-
 def tried(found: Proposal, asked: Namespace) -> int:
     """Whether the program takes the source and the head together, as a status."""
     from tempfile import TemporaryDirectory
 
-    wsm = program()
+    wsm = asking.there()
     if wsm is None:
         tell("no program is there that says whether the two go together")
         return 0

@@ -10,7 +10,6 @@ from .telling import BAD_READ, SHOWN, Ended, Signals
 
 LONGEST = 1 << 16  # bytes of a line; no row that `wsm` takes is as long
 MOST = 2**63 - 1
-LATEST = 10**16  # the latest time that a row of the program has
 HEADER = [b"r", b"KEY", b"TIME"]  # how a first row with the names of the fields begins
 MARK_OF_ORDER = b"\xef\xbb\xbf"
 

@@ -27,7 +27,7 @@ from datetime import tzinfo
 from typing import TYPE_CHECKING, BinaryIO, Callable, Dict, List, Optional, Sequence, TextIO, Union
 
 from . import asking, telling
-from .columns import KINDS, WHOLE
+from .columns import WHOLE
 from .counts import END, REFUSAL
 from .telling import BAD_WORDS, BAD_WRITE, Ended, printable
 from .times import UNITS, moment, zone_of
@@ -62,9 +62,11 @@ class Lines:
             return self.shown([], cells[:1], cells[1:]) if tag == self.query.form.lower() else None
         if tag == "retract":
             cells.insert(0, tag)
-        elif tag != "pane" or cells[0] not in KINDS:
+        elif tag != "pane" or cells[0] not in self.query.kinds:
             return None
-        return self.shown(cells[:2], cells[2:4], cells[4:]) if cells[1] in self.query.key_set else None
+        begins, ends = map(whole, cells[2:4])
+        is_own = cells[1] in self.query.key_set and self.query.has_window((begins, ends))
+        return self.shown(cells[:2], cells[2:4], cells[4:]) if is_own else None
 
     def shown(self, front: Sequence[str], times: Sequence[str], values: Sequence[str]) -> Optional[List[Cell]]:
         if len(values) != len(self.query.columns):

@@ -36,8 +36,8 @@ taken or taken.NAME there, how many lines are surely on the table's disk, which 
 another sum, or lines of another DIR, query or source end it with status 9 and nothing written, and lines that another
 sink took meanwhile with 8.
 
-QUERY must be the run's: lines of another one whose columns have the same types are taken for its own. What QUERY says is
-asked of PROGRAM, or where that is left out of the program that the variable WSM names, of `wsm` at the top of the repository
+QUERY must be the run's: a line of another one ends it with status 1 where its key, kind, window or a cell isn't one that
+QUERY may write; else it is taken for its own. What QUERY says is asked of PROGRAM, or where that is left out of the program that the variable WSM names, of `wsm` at the top of the repository
 or of that on PATH. It ends with status 2 by its words, 3, 4 and 6 by QUERY as `wsm` does, 7 where the tables can't be read
 or written. Where the lines end before those that were taken do, or in the middle of one, the run was killed: that is status
 6 too.

@@ -1,3 +1,4 @@
 mod Lists
+mod Places
 mod Walks
 mod NoFloats

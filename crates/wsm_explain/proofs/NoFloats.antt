@@ -1,6 +1,7 @@
 -- All numbers that are told are whole ones.
 use Rattle.std.proofs.Common.{◌≡◌, ℕ, Bool, true, false, ◌||◌, cond, List, [], ◌∷◌, map, ℤ, pos, negsuc, Option, Some, None, refl}
-use Rattle.std.specs.Prelude.{option_map}
+use Rattle.std.specs.Prelude.{option_map, take}
+use Rattle.std.specs.List.{filter}
 use Rattle.std.specs.Ordering.{int_eq}
 use Rattle.std.specs.Str.{is_utf8}
 use Rattle.serde_json.specs.Data.{Data, null, string}
@@ -14,6 +15,7 @@ use Rattle.wsm_record.specs.declared.words.CellType.TheVariants as cells
 use Rattle.wsm_windows.specs.declared.window.Shape.{Shape}
 use Rattle.wsm_windows.specs.declared.window.Shape.TheVariants.{Fixed, Sliding, Session}
 use Rattle.wsm_admission.specs.declared.clock.Clock.{Clock}
+use Rattle.wsm_tokens.specs.declared.position.Position.{Position}
 use Rattle.wsm_check.specs.declared.refusal.CheckFault.{CheckFault}
 use Rattle.wsm_check.specs.declared.refusal.CheckFault.TheVariants.{Exceeds}
 use Rattle.wsm_program.specs.declared.program.Costs.{Costs}
@@ -29,10 +31,11 @@ use Rattle.wsm_explain.specs.declared.parts.Span.{Span}
 use Rattle.wsm_explain.specs.declared.ways.Way.{Way}
 use Rattle.wsm_explain.specs.Json.{text_data, whole}
 use Rattle.wsm_explain.specs.Declarations.{clock_data, field_data, firing_data, range_data, trigger_data, type_data, typed_data, window_data}
-use Rattle.wsm_explain.specs.Parts.{span_data, spans_of, text_in}
+use Rattle.wsm_explain.specs.Parts.{place_of, span_data, spans_of, text_in}
+use Rattle.wsm_explain.specs.Standing.{candidates, may_stand, standing_data, tokens_from}
 use Rattle.wsm_explain.specs.Ways.{way_data}
 use Rattle.wsm_explain.specs.Program.{code_data, declares_data, instr_data, kind_data, output_data, program_data}
-use Rattle.wsm_explain.specs.Explained.{explained_data, fault_data, joins_data, joins_of, judged_data, limit_data, refusal_data, text_parts, text_sum_data}
+use Rattle.wsm_explain.specs.Explained.{explained_data, fault_data, joins_data, joins_of, judged_data, limit_data, refusal_data, text_of, text_parts, text_sum_data}
 
 both : (a b : Bool) → a ≡ false → b ≡ false → (a || b) ≡ false
 both true b p q = p
@@ -112,16 +115,19 @@ limit_plain : (fault : CheckFault) → has_float (limit_data fault) ≡ false
 limit_plain (Exceeds limit counted allowed) = refl
 limit_plain fault = refl
 
-refusal_plain : (why : InputRefusal) → has_float (refusal_data why) ≡ false
-refusal_plain (refusals.Text fault position) = refl
-refusal_plain (refusals.Check fault part) = both _ _ (limit_plain fault) refl
-refusal_plain (refusals.Bytes fault) = refl
-refusal_plain (refusals.Keys fault) = refl
+standing_plain : (front : List ℕ) (p : Position) → has_float (standing_data front p) ≡ false
+standing_plain front p = listed string (λ w. refl) (filter (may_stand front p) candidates)
 
-fault_plain : (j : Judgement) → has_float (fault_data j) ≡ false
-fault_plain (Refused why) = refusal_plain why
-fault_plain (Rejected p why ways) = refl
-fault_plain (Accepted p ways) = refl
+refusal_plain : (text : List ℕ) (why : InputRefusal) → has_float (refusal_data text why) ≡ false
+refusal_plain text (refusals.Text fault p) = both _ _ (standing_plain (take (place_of (tokens_from text p)) text) p) refl
+refusal_plain text (refusals.Check fault part) = both _ _ (limit_plain fault) refl
+refusal_plain text (refusals.Bytes fault) = refl
+refusal_plain text (refusals.Keys fault) = refl
+
+fault_plain : (i : Input) (j : Judgement) → has_float (fault_data i j) ≡ false
+fault_plain i (Refused why) = refusal_plain (text_of i) why
+fault_plain i (Rejected p why ways) = refl
+fault_plain i (Accepted p ways) = refl
 
 ways_plain : (ways : Option (List Way)) → has_float (joins_of ways) ≡ false
 ways_plain None = refl
@@ -142,4 +148,4 @@ sum_plain (input.Text text) = refl
 sum_plain (input.Program bytes) = refl
 
 pub explained_plain : (i : Input) (j : Judgement) → has_float (explained_data i j) ≡ false
-explained_plain i j = both _ _ (fault_plain j) (both _ _ (joins_plain j) (both _ _ (parts_plain i) (both _ _ (judged_plain j) (both _ _ (sum_plain i) refl))))
+explained_plain i j = both _ _ (fault_plain i j) (both _ _ (joins_plain j) (both _ _ (parts_plain i) (both _ _ (judged_plain j) (both _ _ (sum_plain i) refl))))

@@ -1,8 +1,9 @@
 -- What is told of an input, as JSON.
-use Rattle.std.specs.Prelude.{◌≡◌, ℕ, List, ◌++◌, map, option_map, Option, Some, None, Result, Ok, Err, codes}
+use Rattle.std.specs.Prelude.{◌≡◌, ℕ, List, [], ◌++◌, map, take, option_map, Option, Some, None, Result, Ok, Err, codes}
 use Rattle.serde_json.specs.Data.{Data, null, string, object, member, no_members}
 use Rattle.serde_json.specs.Written.{compact_text}
 use Rattle.wsm_tokens.specs.declared.fault.ParseRefusal.{ParseRefusal}
+use Rattle.wsm_tokens.specs.declared.position.Position.{Position}
 use Rattle.wsm_query.specs.Parse.{parse}
 use Rattle.wsm_query.specs.Tree.{Query}
 use Rattle.wsm_check.specs.declared.refusal.CheckFault.{CheckFault}
@@ -25,8 +26,10 @@ use Rattle.wsm_explain.specs.declared.explaining.Judgement.{Judgement}
 use Rattle.wsm_explain.specs.declared.explaining.Judgement.TheVariants.{Refused, Rejected, Accepted}
 use Rattle.wsm_explain.specs.declared.ways.Way.{Way}
 use Rattle.wsm_explain.specs.Json.{natural, or_null, list_data}
-use Rattle.wsm_explain.specs.Parts.{parts_data}
+use Rattle.wsm_explain.specs.Limits.{limits_data}
+use Rattle.wsm_explain.specs.Parts.{parts_data, place_of}
 use Rattle.wsm_explain.specs.Program.{program_data}
+use Rattle.wsm_explain.specs.Standing.{length_at, standing_data, tokens_from}
 use Rattle.wsm_explain.specs.Sums.{text_sum}
 use Rattle.wsm_explain.specs.Ways.{way_data, way_of}
 
@@ -67,19 +70,29 @@ limit_data (Exceeds limit counted allowed) =
 limit_data fault = null
 
 -- as it is told, and the place, or the part
-abbrev pub refusal_data : InputRefusal → Data
-refusal_data (refusals.Text fault position) =
+abbrev pub spot_data : Position → ℕ → Data → List ℕ → Data
+spot_data p length standing told =
     object
-    (member (codes "column") (natural position.column)
-    (member (codes "line") (natural position.line)
-    (member (codes "told") (string (refusal_text (refusals.Text fault position))) no_members)))
-refusal_data (refusals.Check fault part) =
+    (member (codes "column") (natural p.column)
+    (member (codes "length") (natural length)
+    (member (codes "line") (natural p.line)
+    (member (codes "may_stand") standing
+    (member (codes "told") (string told) no_members)))))
+
+abbrev pub text_fault_data : List ℕ → Position → List ℕ → Data
+text_fault_data text p told =
+    let found = tokens_from text p in
+    spot_data p (length_at text found) (standing_data (take (place_of found) text) p) told
+
+abbrev pub refusal_data : List ℕ → InputRefusal → Data
+refusal_data text (refusals.Text fault position) = text_fault_data text position (refusal_text (refusals.Text fault position))
+refusal_data text (refusals.Check fault part) =
     object
     (member (codes "limit") (limit_data fault)
     (member (codes "part") (string (part_text part))
     (member (codes "told") (string (refusal_text (refusals.Check fault part))) no_members)))
-refusal_data (refusals.Bytes fault) = object (member (codes "told") (string (refusal_text (refusals.Bytes fault))) no_members)
-refusal_data (refusals.Keys fault) = object (member (codes "told") (string (refusal_text (refusals.Keys fault))) no_members)
+refusal_data text (refusals.Bytes fault) = object (member (codes "told") (string (refusal_text (refusals.Bytes fault))) no_members)
+refusal_data text (refusals.Keys fault) = object (member (codes "told") (string (refusal_text (refusals.Keys fault))) no_members)
 
 abbrev pub rejection_data : Rejection → Data
 rejection_data r =
@@ -88,10 +101,15 @@ rejection_data r =
     (member (codes "place") (natural r.place)
     (member (codes "told") (string (rejection_text r)) no_members)))
 
-abbrev pub fault_data : Judgement → Data
-fault_data (Refused why) = refusal_data why
-fault_data (Rejected p why ways) = rejection_data why
-fault_data (Accepted p ways) = null
+-- of a query; a program has none
+abbrev pub text_of : Input → List ℕ
+text_of (input.Text text) = text.now
+text_of (input.Program bytes) = []
+
+abbrev pub fault_data : Input → Judgement → Data
+fault_data i (Refused why) = refusal_data (text_of i) why
+fault_data i (Rejected p why ways) = rejection_data why
+fault_data i (Accepted p ways) = null
 
 abbrev pub needs_data : Program → Data
 needs_data p = program_data p (needed p)
@@ -124,18 +142,19 @@ text_sum_data (input.Program bytes) = null
 
 -- the version of this form
 abbrev pub version : ℕ
-version = 1
+version = 2
 
 abbrev pub explained_data : Input → Judgement → Data
 explained_data i j =
     object
-    (member (codes "fault") (fault_data j)
+    (member (codes "fault") (fault_data i j)
     (member (codes "joins") (joins_data j)
+    (member (codes "limits") limits_data
     (member (codes "parts") (text_parts i)
     (member (codes "program") (judged_data j)
     (member (codes "sum") (text_sum_data i)
     (member (codes "verdict") (string (verdict_word j))
-    (member (codes "version") (natural version) no_members)))))))
+    (member (codes "version") (natural version) no_members))))))))
 
 -- one line
 abbrev pub explained_text : Input → Judgement → List ℕ

@@ -1,6 +1,8 @@
 pub mod Json
 pub mod Declarations
 pub mod Parts
+pub mod Limits
+pub mod Standing
 pub mod Ways
 pub mod Sums
 pub mod Program

@@ -102,8 +102,11 @@ piece_word Emit = codes "emit"
 abbrev pub trimmed : List ℕ → List ℕ
 trimmed s = take (length s - suffix_len is_ascii_whitespace s) s
 
+abbrev pub between : List ℕ → ℕ → ℕ → List ℕ
+between text begin end = trimmed (drop begin (take end text))
+
 abbrev pub text_in : List ℕ → Span → List ℕ
-text_in text s = trimmed (drop s.begin (take s.end text))
+text_in text s = between text s.begin s.end
 
 -- a part, where it begins, its length in bytes, and its text
 abbrev pub span_data : List ℕ → Span → Data

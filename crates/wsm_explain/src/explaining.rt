@@ -6,8 +6,10 @@ ghost use Rattle.wsm_query.specs.Parse.{parse as parse_of};
 ghost use Rattle.wsm_inputs.specs.Inputs.{judged as judged_of};
 ghost use Rattle.wsm_explain.specs.Explained as spec;
 
-use crate::parts::parts_value;
+use crate::limits::limits_value;
+use crate::parts::{front, parts_value};
 use crate::program::program_value;
+use crate::standing::{spot_at, standing_value};
 use crate::sums::text_sum;
 use crate::ways::{Way, ways_of, ways_value};
 use serde_json::{Value, json};
@@ -17,11 +19,11 @@ use wsm_inputs::{End, Input, InputRefusal, costed_of};
 use wsm_program::Program;
 use wsm_query::parse;
 use wsm_rules::{Rejection, Rule, Verified};
-use wsm_tokens::ParseRefusal;
+use wsm_tokens::{ParseRefusal, Position};
 use wsm_verifier::{Costed, needed, verify_costed};
 
 /// The version of what is told.
-const VERSION: u32 = 1;
+const VERSION: u32 = 2;
 
 /// What is found of an input.
 #[derive(Drop)]
@@ -115,14 +117,16 @@ fn explained_value(
 ) -> Result<Value, AllocError>
     ensures { IfOk result (λ v. view v ≡ spec.explained_data input.entry judgement.now) }
 {
-    let fault = fault_value(alloc, judgement)?;
+    let fault = fault_value(alloc, input, judgement)?;
     let joins = joins_value(alloc, judgement)?;
+    let limits = limits_value(alloc)?;
     let parts = text_parts(alloc, input)?;
     let program = judged_value(alloc, judgement)?;
     let sum = text_sum_value(alloc, input)?;
     json!(in alloc; {
         "fault": fault,
         "joins": joins,
+        "limits": limits,
         "parts": parts,
         "program": program,
         "sum": sum,
@@ -198,26 +202,32 @@ fn joins_of(alloc: Global, ways: &Option<Vec<Way>>) -> Result<Value, AllocError>
 }
 
 // Why the input isn't accepted.
-fn fault_value(alloc: Global, judgement: &Judgement) -> Result<Value, AllocError>
-    ensures { IfOk result (λ v. view v ≡ spec.fault_data judgement.now) }
+fn fault_value(alloc: Global, input: Input<'_>, judgement: &Judgement) -> Result<Value, AllocError>
+    ensures { IfOk result (λ v. view v ≡ spec.fault_data input.entry judgement.now) }
 {
     match judgement {
-        Judgement::Refused(why) => refusal_value(alloc, *why),
+        Judgement::Refused(why) => refusal_value(alloc, text_of(input), *why),
         Judgement::Rejected { rejection, .. } => rejection_value(alloc, *rejection),
         Judgement::Accepted { .. } => Ok(Value::Null),
     }
 }
 
-fn refusal_value(alloc: Global, why: InputRefusal) -> Result<Value, AllocError>
-    ensures { IfOk result (λ v. view v ≡ spec.refusal_data why) }
+// The text of a query; a program has none.
+fn text_of(input: Input<'_>) -> &[u8]
+    ensures { result.now ≡ spec.text_of input.entry }
+{
+    match input {
+        Input::Text(text) => text,
+        Input::Program(_) => &[],
+    }
+}
+
+fn refusal_value(alloc: Global, text: &[u8], why: InputRefusal) -> Result<Value, AllocError>
+    ensures { IfOk result (λ v. view v ≡ spec.refusal_data text.now why) }
 {
     let told = format!(in alloc; "{why}")?;
     match why {
-        InputRefusal::Text(_, position) => json!(in alloc; {
-            "column": position.column,
-            "line": position.line,
-            "told": told
-        }),
+        InputRefusal::Text(_, position) => text_fault_value(alloc, text, position, told),
         InputRefusal::Check(fault, part) => {
             let limit = limit_value(alloc, fault)?;
             let part = format!(in alloc; "{part}")?;
@@ -226,6 +236,38 @@ fn refusal_value(alloc: Global, why: InputRefusal) -> Result<Value, AllocError>
         InputRefusal::Bytes(_) => json!(in alloc; {"told": told}),
         InputRefusal::Keys(_) => json!(in alloc; {"told": told}),
     }
+}
+
+// The fault at a position of a text: what stands there, and what may.
+fn text_fault_value(
+    alloc: Global,
+    text: &[u8],
+    position: Position,
+    told: String,
+) -> Result<Value, AllocError>
+    ensures { IfOk result (λ v. view v ≡ spec.text_fault_data text.now position (string_bytes told)) }
+{
+    let spot = spot_at(text, position);
+    let standing = standing_value(alloc, front(text, spot.begin), position)?;
+    spot_value(alloc, position, spot.length, standing, told)
+}
+
+fn spot_value(
+    alloc: Global,
+    position: Position,
+    length: usize,
+    standing: Value,
+    told: String,
+) -> Result<Value, AllocError>
+    ensures { IfOk result (λ v. view v ≡ spec.spot_data position length (view standing) (string_bytes told)) }
+{
+    json!(in alloc; {
+        "column": position.column,
+        "length": length,
+        "line": position.line,
+        "may_stand": standing,
+        "told": told
+    })
 }
 
 // What was counted of a query's code, and how much is allowed.

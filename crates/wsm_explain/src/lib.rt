@@ -22,6 +22,8 @@
 //! - `explaining`: the judgement, and the value that is told of it
 //! - `program`, `declared`: a program, what it declares and what it needs
 //! - `parts`: the parts of a query's text, with their places
+//! - `standing`: what may stand at the place of a fault
+//! - `limits`: how much a query may have
 //! - `ways`: how columns of panes add up
 //! - `sums`: the sum by which rows and tables know a query's text
 //! - `texts`, `tokens`: names as texts, and walks through tokens
@@ -32,8 +34,10 @@ pub use ways::Way;
 
 mod declared;
 mod explaining;
+mod limits;
 mod parts;
 mod program;
+mod standing;
 mod sums;
 mod texts;
 mod tokens;

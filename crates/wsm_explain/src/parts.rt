@@ -98,14 +98,22 @@ fn span_value(alloc: Global, text: &[u8], span: &Span) -> Result<Value, AllocErr
     })
 }
 
-// The text of a part, without the blanks at its end.
+// The text of a part.
 fn text_in(text: &[u8], span: Span) -> &[u8]
     ensures { result.now ≡ spec.text_in text.now span }
 {
-    behind(front(text, span.end), span.begin).trim_ascii_end()
+    between(text, span.begin, span.end)
 }
 
-fn front(text: &[u8], len: usize) -> &[u8]
+/// The text from one offset up to another one, without the blanks at its end.
+pub fn between(text: &[u8], begin: usize, end: usize) -> &[u8]
+    ensures { result.now ≡ spec.between text.now begin end }
+{
+    behind(front(text, end), begin).trim_ascii_end()
+}
+
+/// The text up to an offset.
+pub fn front(text: &[u8], len: usize) -> &[u8]
     ensures { result.now ≡ take len text.now }
 {
     if len < text.len() {
@@ -182,8 +190,8 @@ fn go_on(
     }
 }
 
-// Where the token in sight stands, or the text ends.
-fn place_of(reader: &Reader) -> usize
+/// Where the token in sight stands, or the text ends.
+pub fn place_of(reader: &Reader) -> usize
     ensures { result ≡ spec.place_of reader.now }
 {
     match reader.unexpected() {
