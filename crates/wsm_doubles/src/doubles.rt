@@ -102,26 +102,29 @@ impl Doubles {
     ///
     /// Memory was refused, or there are 2^32 - 1 identifiers. The same are known as before, at this watermark and
     /// at each later one.
+    #[inline(always)]
     pub fn pass(
         &mut self,
         identifier: &[u8],
         time: i64,
         clock: &Clock,
-        shape: Shape,
+        shape: &Shape,
         mark: i64,
     ) -> Result<bool, AllocError>
-        requires { IsShape shape }
-        ensures known { IfOk result (λ passes. passes ≡ not (is_known clock.now shape mark identifier.now self.old)) }
-        ensures recalled { (memory : Memory) → Recalls clock.now shape mark self.old memory → IfOk result (λ passes. passes ≡ not (knows identifier.now memory)) }
+        requires { IsShape shape.now }
+        ensures known { IfOk result (λ passes. passes ≡ not (is_known clock.now shape.now mark identifier.now self.old)) }
+        ensures recalled { (memory : Memory) → Recalls clock.now shape.now mark self.old memory →
+            IfOk result (λ passes. passes ≡ not (knows identifier.now memory)) }
         ensures double { result ≡ Ok false → self.new ≡ self.old }
-        ensures noted { (memory : Memory) → Recalls clock.now shape mark self.old memory
-            → result ≡ Ok true → Recalls clock.now shape mark self.new (remembered clock.now shape mark identifier.now time memory) }
-        ensures unchanged { (memory : Memory) → Recalls clock.now shape mark self.old memory → OnErr result (Recalls clock.now shape mark self.new memory) }
-        ensures small { (most : ℕ) → length (live clock.now shape mark self.old.entries) ≤ most → IsSmall most self.old → IsSmall most self.new }
+        ensures noted { (memory : Memory) → Recalls clock.now shape.now mark self.old memory
+            → result ≡ Ok true → Recalls clock.now shape.now mark self.new (remembered clock.now shape.now mark identifier.now time memory) }
+        ensures unchanged { (memory : Memory) → Recalls clock.now shape.now mark self.old memory
+            → OnErr result (Recalls clock.now shape.now mark self.new memory) }
+        ensures small { (most : ℕ) → length (live clock.now shape.now mark self.old.entries) ≤ most → IsSmall most self.old → IsSmall most self.new }
     {
         let moment = Moment {
             clock: *clock,
-            shape,
+            shape: *shape,
             mark,
         };
         let hash = hash_of(identifier);
@@ -148,16 +151,16 @@ fn make_room(
     table: &mut Table,
     room: &mut usize,
     clock: &Clock,
-    shape: Shape,
+    shape: &Shape,
     mark: i64,
 ) -> Result<(), AllocError>
-    requires shape { IsShape shape }
+    requires shape { IsShape shape.now }
     requires room { length table.old.entries ≤ room.old }
-    ensures live { (later : ℤ) → mark ≤ℤ later → live clock.now shape later table.new.entries ≡ live clock.now shape later table.old.entries }
+    ensures live { (later : ℤ) → mark ≤ℤ later → live clock.now shape.now later table.new.entries ≡ live clock.now shape.now later table.old.entries }
     ensures room { OnOk result (length table.new.entries < room.new) }
     ensures within { length table.new.entries ≤ room.new }
     ensures buckets { OnOk result (0 < table.new.buckets) }
-    ensures small { (most : ℕ) → length (live clock.now shape mark table.old.entries) ≤ most
+    ensures small { (most : ℕ) → length (live clock.now shape.now mark table.old.entries) ≤ most
         → room.old ≤ max (2 * most) least_room → room.new ≤ max (2 * most) least_room }
 {
     if table.len() >= *room || table.buckets() == 0 {
@@ -174,11 +177,11 @@ fn forget(
     table: &mut Table,
     room: &mut usize,
     clock: &Clock,
-    shape: Shape,
+    shape: &Shape,
     mark: i64,
 ) -> Result<(), AllocError>
-    requires { IsShape shape }
-    ensures entries { OnOk result (table.new.entries ≡ live clock.now shape mark table.old.entries) }
+    requires { IsShape shape.now }
+    ensures entries { OnOk result (table.new.entries ≡ live clock.now shape.now mark table.old.entries) }
     ensures room { OnOk result (room.new ≡ max (2 * length table.new.entries) least_room) }
     ensures buckets { OnOk result (0 < table.new.buckets) }
     ensures table_unchanged { OnErr result (table.new ≡ table.old) }
@@ -186,7 +189,7 @@ fn forget(
 {
     let moment = Moment {
         clock: *clock,
-        shape,
+        shape: *shape,
         mark,
     };
     if table.is_live(moment) {

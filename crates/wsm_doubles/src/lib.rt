@@ -14,9 +14,9 @@
 //! let clock = Clock { start: 0, skew: 100, lateness: 10, from_window: false, records: 1000 };
 //! let shape = Shape::Fixed(60);
 //! let mut doubles = Doubles::new(alloc);
-//! assert!(rt; doubles.pass(b"order 17", 49, &clock, shape, 0)?);
-//! assert!(rt; !doubles.pass(b"order 17", 49, &clock, shape, 59)?);
-//! assert!(rt; doubles.pass(b"order 17", 49, &clock, shape, 60)?); // 49 + 10 is before 60
+//! assert!(rt; doubles.pass(b"order 17", 49, &clock, &shape, 0)?);
+//! assert!(rt; !doubles.pass(b"order 17", 49, &clock, &shape, 59)?);
+//! assert!(rt; doubles.pass(b"order 17", 49, &clock, &shape, 60)?); // 49 + 10 is before 60
 //! ```
 #![tactic(auto)]
 

@@ -93,9 +93,17 @@ impl Table {
         requires within { number < length self.now.entries }
         ensures { result ≡ counts_as moment.clock moment.shape moment.mark identifier.now (slice_index_or self.now.entries number no_entry) }
     {
-        self.chains.hash(number) == hash
-            && identifier == self.entries.text(number)
-            && !moment.is_late(self.entries.time(number))
+        self.chains.hash(number) == hash && self.is_entry(number, identifier, moment)
+    }
+
+    // Whether the entry of a number has an identifier, and may count at a moment. It is a call of its own, since hardly any but a
+    // double's hash leads here.
+    #[inline(never)]
+    fn is_entry(&self, number: usize, identifier: &[u8], moment: Moment) -> bool
+        requires { number < length self.now.entries }
+        ensures { result ≡ counts_as moment.clock moment.shape moment.mark identifier.now (slice_index_or self.now.entries number no_entry) }
+    {
+        identifier == self.entries.text(number) && !moment.is_late(self.entries.time(number))
     }
 
     // Adds an identifier with its hash and a time.

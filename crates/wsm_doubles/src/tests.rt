@@ -21,14 +21,14 @@ fn few_are_kept(rt: HostRuntime) -> Result<(), Fail> {
     for number in 0..20_000u64 {
         let text = format!(in rt.alloc(); "order {number}")?;
         let time = number as i64;
-        let passes = doubles.pass(text.as_bytes(), time, &CLOCK, shape, time)?;
+        let passes = doubles.pass(text.as_bytes(), time, &CLOCK, &shape, time)?;
         assert!(rt; passes);
     }
     assert!(rt; doubles.len() <= 4096);
     let last = b"order 19999";
-    let known = doubles.pass(last, 19_999, &CLOCK, shape, 20_009)?;
+    let known = doubles.pass(last, 19_999, &CLOCK, &shape, 20_009)?;
     assert!(rt; !known);
-    let forgotten = doubles.pass(last, 19_999, &CLOCK, shape, 20_010)?;
+    let forgotten = doubles.pass(last, 19_999, &CLOCK, &shape, 20_010)?;
     assert!(rt; forgotten);
     Ok(())
 }

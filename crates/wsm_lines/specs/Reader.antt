@@ -13,11 +13,11 @@ event_read r = event_of r.reading.event
 
 -- the identifier that was read last
 abbrev pub identifier_read : LineReader → Option (List ℕ)
-identifier_read r = identifier_held r.reading.identifier.items
+identifier_read r = identifier_held r.reading.identifier
 
 -- the clock that was named last
 abbrev pub clock_read : LineReader → Option (List ℕ)
-clock_read r = identifier_held r.reading.clock.items
+clock_read r = identifier_held r.reading.clock
 
 -- a reader by a source that read these lines, the newest first
 pub record Follows (s : Source) (before : List (List ℕ)) (r : LineReader) : Type 0 where

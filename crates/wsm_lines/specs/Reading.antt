@@ -15,11 +15,11 @@ HoldsEvent s d taken r = event_by s d taken ≡ Ok (event_of r.event)
 
 -- the identifier that it has stands there, or none
 abbrev pub HoldsIdentifier : Source → Result Taken LineFault → Reading → Type 0
-HoldsIdentifier s taken r = identifier_by s taken ≡ Ok (identifier_held r.identifier.items)
+HoldsIdentifier s taken r = identifier_by s taken ≡ Ok (identifier_held r.identifier)
 
 -- the clock that it names stands there, or none
 abbrev pub HoldsClock : Source → Result Taken LineFault → Reading → Type 0
-HoldsClock s taken r = clock_by s taken ≡ Ok (identifier_held r.clock.items)
+HoldsClock s taken r = clock_by s taken ≡ Ok (identifier_held r.clock)
 
 -- the line says no event for this fault
 abbrev pub TellsFault : Source → Declared → Result Taken LineFault → LineFault → Type 0

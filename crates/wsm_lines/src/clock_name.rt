@@ -1,51 +1,45 @@
 //! The clock that a line names.
-ghost use Rattle.std.specs.Prelude.{◌≡◌, OnOk};
+ghost use Rattle.std.specs.Prelude.{◌≡◌};
 ghost use Rattle.wsm_lines.specs.ClockName.{clock_at, clock_in, clock_text};
 ghost use Rattle.wsm_lines.specs.Identifier.{identifier_held};
 ghost use Rattle.wsm_lines.specs.Seen.{scalar_seen, taken_seen};
 
 use crate::identifier::is_identifier;
 use crate::scalar::{Scalar, Taken, scalar_at};
+use crate::short_text::ShortText;
 use crate::source::Place;
-use std::alloc::AllocError;
 
 // Reads the clock that a text names in place of another.
-fn read_text(text: &[u8], clock: &mut Vec<u8>) -> Result<(), AllocError>
-    ensures { OnOk result (clock_text text.now ≡ identifier_held clock.new.items) }
+fn read_text(text: &[u8], clock: &mut ShortText)
+    ensures { clock_text text.now ≡ identifier_held clock.new }
 {
-    clock.clear();
     if is_identifier(text) {
-        clock.extend_from_slice(text)?;
+        clock.set(text);
+    } else {
+        clock.clear();
     }
-    Ok(())
 }
 
 // Reads the clock that is named by what stands at its place in place of another.
-fn read_scalar(scalar: Scalar<'_>, clock: &mut Vec<u8>) -> Result<(), AllocError>
-    ensures { OnOk result (clock_in (scalar_seen scalar.entry) ≡ identifier_held clock.new.items) }
+fn read_scalar(scalar: Scalar<'_>, clock: &mut ShortText)
+    ensures { clock_in (scalar_seen scalar.entry) ≡ identifier_held clock.new }
 {
     match scalar {
         Scalar::Absent | Scalar::Odd => {
             clock.clear();
-            Ok(())
         }
         Scalar::Text(text) | Scalar::Number(text) => read_text(text, clock),
     }
 }
 
 /// Reads the clock that a line names in place of another. No byte stands there where it names none.
-pub(crate) fn read_clock(
-    place: &Option<Place>,
-    taken: &Taken<'_>,
-    clock: &mut Vec<u8>,
-) -> Result<(), AllocError>
-    ensures { OnOk result (clock_at place.now (taken_seen taken.now) ≡ identifier_held clock.new.items) }
+pub(crate) fn read_clock(place: &Option<Place>, taken: &Taken<'_>, clock: &mut ShortText)
+    ensures { clock_at place.now (taken_seen taken.now) ≡ identifier_held clock.new }
 {
     match place {
         Some(place) => read_scalar(scalar_at(taken, place), clock),
         None => {
             clock.clear();
-            Ok(())
         }
     }
 }

@@ -111,7 +111,8 @@ pub(crate) fn read_first(
     heading: &mut Heading,
     spans: &mut Vec<Span>,
 ) -> Result<LineFault, AllocError>
-    ensures fault { IfOk result (λ f. (s : Source) (d : Declared) → event_by s d (on_ok (text_in true longest line.now) (taken_below form.now unread)) ≡ Err f) }
+    ensures fault { IfOk result (λ f. (s : Source) (d : Declared) →
+        event_by s d (on_ok (text_in true longest line.now) (taken_below form.now unread)) ≡ Err f) }
     ensures heading { OnOk result (heading_seen heading.new ≡ heading_by form.now (text_in true longest line.now)) }
 {
     match text_in(true, longest, line) {

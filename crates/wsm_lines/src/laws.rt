@@ -9,10 +9,13 @@ ghost use Rattle.wsm_lines.specs.Text.{kept};
 /// may be and two bytes more, and by as much of each line before it. So no more has to be kept of a line
 /// that is too long.
 pub fn beginnings_tell()
-    ensures all { (s : Source) (d : Declared) (before : List (List ℕ)) (line : List ℕ) → said_of s d (map (kept s.longest) before) (kept s.longest line) ≡ said_of s d before line }
+    ensures all { (s : Source) (d : Declared) (before : List (List ℕ)) (line : List ℕ) →
+        said_of s d (map (kept s.longest) before) (kept s.longest line) ≡ said_of s d before line }
     ensures line { (s : Source) (d : Declared) (before : List (List ℕ)) (line : List ℕ) → said_of s d before (kept s.longest line) ≡ said_of s d before line }
-    ensures identifiers { (s : Source) (before : List (List ℕ)) (line : List ℕ) → identifier_of s (map (kept s.longest) before) (kept s.longest line) ≡ identifier_of s before line }
-    ensures clocks { (s : Source) (before : List (List ℕ)) (line : List ℕ) → clock_of s (map (kept s.longest) before) (kept s.longest line) ≡ clock_of s before line }
+    ensures identifiers { (s : Source) (before : List (List ℕ)) (line : List ℕ) →
+        identifier_of s (map (kept s.longest) before) (kept s.longest line) ≡ identifier_of s before line }
+    ensures clocks { (s : Source) (before : List (List ℕ)) (line : List ℕ) →
+        clock_of s (map (kept s.longest) before) (kept s.longest line) ≡ clock_of s before line }
 {}
 
 /// An identifier has 1 to 255 bytes.

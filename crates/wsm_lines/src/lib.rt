@@ -42,6 +42,7 @@ mod reading;
 mod room;
 mod rows;
 mod scalar;
+mod short_text;
 mod source;
 mod table;
 mod tagged;

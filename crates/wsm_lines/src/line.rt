@@ -86,7 +86,8 @@ pub(crate) fn read_line(
     ensures identifier { OnOk result (HoldsIdentifier source.now (taken_under source.now (heading_seen heading.old) line.now) reading.new) }
     ensures clock { OnOk result (HoldsClock source.now (taken_under source.now (heading_seen heading.old) line.now) reading.new) }
     ensures fault { IfErr result (λ r. IfFault r (TellsFault source.now schema.now (taken_under source.now (heading_seen heading.old) line.now))) }
-    ensures heading { result ≢ Err LineRefusal.Memory → heading_seen heading.new ≡ headed_in source.now.format source.now.longest (heading_seen heading.old) line.now }
+    ensures heading { result ≢ Err LineRefusal.Memory →
+        heading_seen heading.new ≡ headed_in source.now.format source.now.longest (heading_seen heading.old) line.now }
 {
     match &source.format {
         Format::Json => {

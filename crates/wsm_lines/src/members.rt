@@ -35,7 +35,8 @@ fn read_members<'a>(
     reader: &mut Reader<'a>,
     depth: usize,
 ) -> Result<Vec<(&'a str, Value<'a>)>, Error>
-    ensures ok { IfOk result (λ v. parse_map (passing filter.now.buckets) (members (value depth) (length reader.old) reader.old) ≡ Some (members_view v.items, reader.new)) }
+    ensures ok { IfOk result (λ v. parse_map (passing filter.now.buckets) (members (value depth) (length reader.old) reader.old)
+        ≡ Some (members_view v.items, reader.new)) }
     ensures invalid { result ≡ Err Error.Invalid → members (value depth) (length reader.old) reader.old ≡ None }
 {
     let mut found = Vec::with_capacity(alloc, ROOM)?;

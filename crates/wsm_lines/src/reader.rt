@@ -9,6 +9,7 @@ use crate::line::read_line;
 use crate::name_filter::NameFilter;
 use crate::reading::Reading;
 use crate::room::Room;
+use crate::short_text::ShortText;
 use crate::source::Source;
 use crate::text::bare;
 use std::alloc::Global;
@@ -52,8 +53,8 @@ impl LineReader {
                     time: 0,
                     values: Vec::new(alloc),
                 },
-                identifier: Vec::new(alloc),
-                clock: Vec::new(alloc),
+                identifier: ShortText::new(),
+                clock: ShortText::new(),
             },
             heading: Heading::Unread,
             room: Room::new(alloc),
@@ -63,11 +64,15 @@ impl LineReader {
     /// Reads the event, the identifier and the clock of a line, which comes without its line feed, or tells
     /// the first fault. After a refusal any of them stand there.
     pub fn read(&mut self, schema: &Schema, line: &[u8]) -> Result<(), LineRefusal>
-        ensures event { (s : Source) (before : List (List ℕ)) → Follows s before self.old → OnOk result (said_of s schema.now before line.now ≡ Ok (event_read self.new)) }
-        ensures identifier { (s : Source) (before : List (List ℕ)) → Follows s before self.old → OnOk result (identifier_of s before line.now ≡ identifier_read self.new) }
+        ensures event { (s : Source) (before : List (List ℕ)) → Follows s before self.old →
+            OnOk result (said_of s schema.now before line.now ≡ Ok (event_read self.new)) }
+        ensures identifier { (s : Source) (before : List (List ℕ)) → Follows s before self.old →
+            OnOk result (identifier_of s before line.now ≡ identifier_read self.new) }
         ensures clock { (s : Source) (before : List (List ℕ)) → Follows s before self.old → OnOk result (clock_of s before line.now ≡ clock_read self.new) }
-        ensures fault { (s : Source) (before : List (List ℕ)) → Follows s before self.old → IfErr result (λ r. IfFault r (λ f. said_of s schema.now before line.now ≡ Err f)) }
-        ensures follows { (s : Source) (before : List (List ℕ)) → Follows s before self.old → (result ≢ Err LineRefusal.Memory) → Follows s (line.now ∷ before) self.new }
+        ensures fault { (s : Source) (before : List (List ℕ)) → Follows s before self.old →
+            IfErr result (λ r. IfFault r (λ f. said_of s schema.now before line.now ≡ Err f)) }
+        ensures follows { (s : Source) (before : List (List ℕ)) → Follows s before self.old → (result ≢ Err LineRefusal.Memory) →
+            Follows s (line.now ∷ before) self.new }
     {
         read_line(
             self.alloc,
@@ -92,14 +97,14 @@ impl LineReader {
     pub fn identifier(&self) -> Option<&[u8]>
         ensures { option_map (λ t. t.now) result ≡ identifier_read self.now }
     {
-        held(&self.reading.identifier)
+        held(self.reading.identifier.as_slice())
     }
 
     /// The name of the clock that the line names which was read last, if it names one: 1 to 255 bytes.
     pub fn clock(&self) -> Option<&[u8]>
         ensures { option_map (λ t. t.now) result ≡ clock_read self.now }
     {
-        held(&self.reading.clock)
+        held(self.reading.clock.as_slice())
     }
 }
 

@@ -12,6 +12,7 @@ use crate::event::read_record;
 use crate::fault::LineRefusal;
 use crate::identifier::read_identifier;
 use crate::scalar::Taken;
+use crate::short_text::ShortText;
 use crate::source::Source;
 use std::alloc::Global;
 use wsm_record::{Event, Schema};
@@ -22,9 +23,9 @@ pub struct Reading {
     /// Before the first event, a record without values.
     pub event: Event,
     /// The bytes of the identifier: none where there is no identifier, since no identifier is empty.
-    pub identifier: Vec<u8>,
+    pub identifier: ShortText,
     /// The bytes of the clock's name: none where the line names no clock.
-    pub clock: Vec<u8>,
+    pub clock: ShortText,
 }
 
 /// Reads what a line says, its event, its identifier and the clock that it names, in place of what was
@@ -37,11 +38,12 @@ pub(crate) fn read_taken(
     reading: &mut Reading,
 ) -> Result<(), LineRefusal>
     ensures event { OnOk result (event_in source.now schema.now (taken_seen taken.now) ≡ Ok (event_of reading.new.event)) }
-    ensures identifier { OnOk result (identifier_at source.now.identifier (taken_seen taken.now) ≡ Ok (identifier_held reading.new.identifier.items)) }
-    ensures clock { OnOk result (clock_at source.now.clock (taken_seen taken.now) ≡ identifier_held reading.new.clock.items) }
+    ensures identifier { OnOk result (identifier_at source.now.identifier (taken_seen taken.now) ≡ Ok (identifier_held reading.new.identifier)) }
+    ensures clock { OnOk result (clock_at source.now.clock (taken_seen taken.now) ≡ identifier_held reading.new.clock) }
     ensures fault { IfErr result (λ r. IfFault r (λ f. event_in source.now schema.now (taken_seen taken.now) ≡ Err f)) }
 {
     read_record(alloc, source, schema, taken, &mut reading.event)?;
     read_identifier(&source.identifier, taken, &mut reading.identifier)?;
-    Ok(read_clock(&source.clock, taken, &mut reading.clock)?)
+    read_clock(&source.clock, taken, &mut reading.clock);
+    Ok(())
 }

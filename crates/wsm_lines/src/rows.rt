@@ -30,10 +30,13 @@ fn read_row(
     room: &mut Room,
     reading: &mut Reading,
 ) -> Result<(), LineRefusal>
-    ensures event { OnOk result (HoldsEvent source.now schema.now (taken_row header.now.columns.items header.now.count (cells_of separator text.now)) reading.new) }
-    ensures identifier { OnOk result (HoldsIdentifier source.now (taken_row header.now.columns.items header.now.count (cells_of separator text.now)) reading.new) }
+    ensures event { OnOk result (HoldsEvent source.now schema.now
+        (taken_row header.now.columns.items header.now.count (cells_of separator text.now)) reading.new) }
+    ensures identifier { OnOk result
+        (HoldsIdentifier source.now (taken_row header.now.columns.items header.now.count (cells_of separator text.now)) reading.new) }
     ensures clock { OnOk result (HoldsClock source.now (taken_row header.now.columns.items header.now.count (cells_of separator text.now)) reading.new) }
-    ensures fault { IfErr result (λ r. IfFault r (TellsFault source.now schema.now (taken_row header.now.columns.items header.now.count (cells_of separator text.now)))) }
+    ensures fault { IfErr result (λ r. IfFault r
+        (TellsFault source.now schema.now (taken_row header.now.columns.items header.now.count (cells_of separator text.now)))) }
 {
     if !find_cells(separator, text, &mut room.spans)? {
         return Err(LineRefusal::Fault(LineFault::NotCsv));
@@ -56,10 +59,14 @@ fn read_below(
     room: &mut Room,
     reading: &mut Reading,
 ) -> Result<(), LineRefusal>
-    ensures event { OnOk result (HoldsEvent source.now schema.now (on_ok (text_in false source.now.longest line.now) (taken_below form.now (header_seen header.now))) reading.new) }
-    ensures identifier { OnOk result (HoldsIdentifier source.now (on_ok (text_in false source.now.longest line.now) (taken_below form.now (header_seen header.now))) reading.new) }
-    ensures clock { OnOk result (HoldsClock source.now (on_ok (text_in false source.now.longest line.now) (taken_below form.now (header_seen header.now))) reading.new) }
-    ensures fault { IfErr result (λ r. IfFault r (TellsFault source.now schema.now (on_ok (text_in false source.now.longest line.now) (taken_below form.now (header_seen header.now))))) }
+    ensures event { OnOk result (HoldsEvent source.now schema.now
+        (on_ok (text_in false source.now.longest line.now) (taken_below form.now (header_seen header.now))) reading.new) }
+    ensures identifier { OnOk result
+        (HoldsIdentifier source.now (on_ok (text_in false source.now.longest line.now) (taken_below form.now (header_seen header.now))) reading.new) }
+    ensures clock { OnOk result (HoldsClock source.now
+        (on_ok (text_in false source.now.longest line.now) (taken_below form.now (header_seen header.now))) reading.new) }
+    ensures fault { IfErr result (λ r. IfFault r
+        (TellsFault source.now schema.now (on_ok (text_in false source.now.longest line.now) (taken_below form.now (header_seen header.now))))) }
 {
     let text = text_in(false, source.longest, line)?.as_bytes();
     if text == header.text.as_slice() {
@@ -88,10 +95,16 @@ pub(crate) fn read_csv(
     room: &mut Room,
     reading: &mut Reading,
 ) -> Result<(), LineRefusal>
-    ensures event { OnOk result (HoldsEvent source.now schema.now (on_ok (text_in (is_unread (heading_seen heading.old)) source.now.longest line.now) (taken_below form.now (heading_seen heading.old))) reading.new) }
-    ensures identifier { OnOk result (HoldsIdentifier source.now (on_ok (text_in (is_unread (heading_seen heading.old)) source.now.longest line.now) (taken_below form.now (heading_seen heading.old))) reading.new) }
-    ensures clock { OnOk result (HoldsClock source.now (on_ok (text_in (is_unread (heading_seen heading.old)) source.now.longest line.now) (taken_below form.now (heading_seen heading.old))) reading.new) }
-    ensures fault { IfErr result (λ r. IfFault r (TellsFault source.now schema.now (on_ok (text_in (is_unread (heading_seen heading.old)) source.now.longest line.now) (taken_below form.now (heading_seen heading.old))))) }
+    ensures event { OnOk result (HoldsEvent source.now schema.now
+        (on_ok (text_in (is_unread (heading_seen heading.old)) source.now.longest line.now) (taken_below form.now (heading_seen heading.old))) reading.new) }
+    ensures identifier { OnOk result
+        (HoldsIdentifier source.now
+        (on_ok (text_in (is_unread (heading_seen heading.old)) source.now.longest line.now) (taken_below form.now (heading_seen heading.old))) reading.new) }
+    ensures clock { OnOk result (HoldsClock source.now
+        (on_ok (text_in (is_unread (heading_seen heading.old)) source.now.longest line.now) (taken_below form.now (heading_seen heading.old))) reading.new) }
+    ensures fault { IfErr result (λ r. IfFault r
+        (TellsFault source.now schema.now
+        (on_ok (text_in (is_unread (heading_seen heading.old)) source.now.longest line.now) (taken_below form.now (heading_seen heading.old))))) }
     ensures heading { result ≢ Err LineRefusal.Memory → heading_seen heading.new ≡ headed form.now source.now.longest (heading_seen heading.old) line.now }
 {
     match heading {

@@ -35,12 +35,20 @@ pub enum Taken<'a> {
     Csv(&'a Texts),
 }
 
+// Whether two names are the same. It is a call of its own, so that none of its work is done for names of other lengths.
+#[inline(never)]
+fn is_same(key: &str, name: &str) -> bool
+    ensures { result ≡ bytes_eq key.now name.now }
+{
+    key == name
+}
+
 // Whether two names are the same. Most have other lengths, which is told here.
 #[inline(always)]
 fn is_named(key: &str, name: &str) -> bool
     ensures { result ≡ bytes_eq key.now name.now }
 {
-    key.len() == name.len() && key == name
+    key.len() == name.len() && is_same(key, name)
 }
 
 // The last member of that name.
@@ -60,6 +68,7 @@ fn last_named<'v, 'a>(members: &'v Vec<(&'a str, Value<'a>)>, name: &str) -> Opt
 }
 
 // The member of that name.
+#[inline(always)]
 fn member<'v, 'a>(value: &'v Value<'a>, name: &Word) -> Option<&'v Value<'a>>
     ensures { option_map (λ v. value_view v.now) result ≡ get name.now (value_view value.now) }
 {
@@ -70,17 +79,36 @@ fn member<'v, 'a>(value: &'v Value<'a>, name: &Word) -> Option<&'v Value<'a>>
     }
 }
 
-// The value that members lead to.
+// The value that members lead to, however many they are.
+fn found_below<'v, 'a>(value: &'v Value<'a>, names: &[Word]) -> Option<&'v Value<'a>>
+    ensures { option_map (λ v. value_view v.now) result ≡ found_at names.now (value_view value.now) }
+{
+    match names.split_first() {
+        None => Some(value),
+        Some((name, rest)) => found_below(member(value, name)?, rest),
+    }
+}
+
+// The value that members lead to: mostly one, which is found here.
+#[inline(always)]
 fn found_at<'v, 'a>(value: &'v Value<'a>, names: &[Word]) -> Option<&'v Value<'a>>
     ensures { option_map (λ v. value_view v.now) result ≡ found_at names.now (value_view value.now) }
 {
     match names.split_first() {
         None => Some(value),
-        Some((name, rest)) => found_at(member(value, name)?, rest),
+        Some((name, rest)) => {
+            let found = member(value, name)?;
+            if rest.is_empty() {
+                Some(found)
+            } else {
+                found_below(found, rest)
+            }
+        }
     }
 }
 
 // What a value of JSON is.
+#[inline(always)]
 fn of_json<'v>(value: &'v Value<'_>) -> Scalar<'v>
     ensures { scalar_seen result ≡ of_json (value_view value.now) }
 {
@@ -95,6 +123,7 @@ fn of_json<'v>(value: &'v Value<'_>) -> Scalar<'v>
 }
 
 // What members lead to.
+#[inline(always)]
 fn json_at<'v>(value: &'v Value<'_>, names: &[Word]) -> Scalar<'v>
     ensures { scalar_seen result ≡ of_found (found_at names.now (value_view value.now)) }
 {
@@ -105,6 +134,7 @@ fn json_at<'v>(value: &'v Value<'_>, names: &[Word]) -> Scalar<'v>
 }
 
 // What a cell is.
+#[inline(always)]
 fn of_cell(cell: &[u8]) -> Scalar<'_>
     ensures { scalar_seen result ≡ of_cell cell.now }
 {
@@ -115,6 +145,7 @@ fn of_cell(cell: &[u8]) -> Scalar<'_>
 }
 
 /// What stands at a place of a line.
+#[inline(always)]
 pub(crate) fn scalar_at<'t>(taken: &'t Taken<'_>, place: &Place) -> Scalar<'t>
     ensures { scalar_seen result ≡ scalar_at (taken_seen taken.now) place.now }
 {

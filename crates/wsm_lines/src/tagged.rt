@@ -51,10 +51,14 @@ pub(crate) fn read_tagged_row(
     room: &mut Room,
     reading: &mut Reading,
 ) -> Result<(), LineRefusal>
-    ensures event { OnOk result (HoldsEvent source.now schema.now (on_ok (text_in first source.now.longest line.now) (taken_record (length source.now.fields))) reading.new) }
-    ensures identifier { OnOk result (HoldsIdentifier source.now (on_ok (text_in first source.now.longest line.now) (taken_record (length source.now.fields))) reading.new) }
-    ensures clock { OnOk result (HoldsClock source.now (on_ok (text_in first source.now.longest line.now) (taken_record (length source.now.fields))) reading.new) }
-    ensures fault { IfErr result (λ r. IfFault r (TellsFault source.now schema.now (on_ok (text_in first source.now.longest line.now) (taken_record (length source.now.fields))))) }
+    ensures event { OnOk result (HoldsEvent source.now schema.now
+        (on_ok (text_in first source.now.longest line.now) (taken_record (length source.now.fields))) reading.new) }
+    ensures identifier { OnOk result
+        (HoldsIdentifier source.now (on_ok (text_in first source.now.longest line.now) (taken_record (length source.now.fields))) reading.new) }
+    ensures clock { OnOk result (HoldsClock source.now
+        (on_ok (text_in first source.now.longest line.now) (taken_record (length source.now.fields))) reading.new) }
+    ensures fault { IfErr result (λ r. IfFault r
+        (TellsFault source.now schema.now (on_ok (text_in first source.now.longest line.now) (taken_record (length source.now.fields))))) }
 {
     let text = text_in(first, source.longest, line)?.as_bytes();
     let fields = source.fields.items();

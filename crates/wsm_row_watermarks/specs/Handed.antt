@@ -9,9 +9,10 @@ use Rattle.wsm_admission.specs.Clock.{source_mark}
 use Rattle.wsm_turns.specs.Numbered.{Numbered}
 use Rattle.wsm_turns.specs.Turns.{Setting, fed_with}
 use Rattle.wsm_row_watermarks.specs.declared.handed.Handed.{Handed}
+use Rattle.wsm_row_watermarks.specs.Latest.{latest_time}
 use Rattle.wsm_row_watermarks.specs.Turns.{event_text, events_text}
 
--- what is kept of a history is its watermarks, and how many records were late
+-- what an admission keeps of a history is its watermarks, and how many records were late
 pub record Marks (w : Setting) (a : State) (latest : ℤ) (past : List Event) : Type 0 where
   pub clock : a.clock ≡ w.clock
   pub fits : admission.Fits w.shape w.declared a past
@@ -22,6 +23,7 @@ pub record Serves (w : Setting) (t : Handed) (past : List Event) : Type 0 where
   pub declared : t.schema ≡ w.declared
   pub shape : t.shape ≡ w.shape
   pub marks : Marks w t.admission t.first past
+  pub latest : t.latest ≡ latest_time w.clock w.shape w.declared past
 
 -- nothing has changed but what is kept of watermarks
 pub record HearsOnly (old new : Handed) : Type 0 where
@@ -55,7 +57,7 @@ texts_append d number line (g ∷ gs) hs =
 
 pub Took-none : (t : Handed) → Took t t []
 Took-none t w past serves = record {
-  serves = record { declared = serves.declared; shape = serves.shape; marks = serves.marks };
+  serves = record { declared = serves.declared; shape = serves.shape; marks = serves.marks; latest = serves.latest };
   text = sym (append-nil t.text.items);
   number = refl;
   line = refl;
@@ -75,4 +77,4 @@ Tells-join w a b c past gs hs first second = record {
 pub Took-join : (a b c : Handed) (gs hs : List Numbered) → Took a b gs → Took b c hs → Took a c (gs ++ hs)
 Took-join a b c gs hs first second w past serves =
     let told = first w past serves in
-    Tells-join w a b c past gs hs told (second w (fed_with past gs) (record { declared = told.serves.declared; shape = told.serves.shape; marks = told.serves.marks }))
+    Tells-join w a b c past gs hs told (second w (fed_with past gs) (record { declared = told.serves.declared; shape = told.serves.shape; marks = told.serves.marks; latest = told.serves.latest }))

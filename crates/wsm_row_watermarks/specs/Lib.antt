@@ -1,5 +1,6 @@
 pub mod Lines
 pub mod LineRows
+pub mod Latest
 pub mod Turns
 pub mod TurnRows
 pub mod Handed

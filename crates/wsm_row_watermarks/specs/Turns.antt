@@ -14,9 +14,10 @@ use Rattle.wsm_turns.specs.declared.voice.Voice.TheVariants.{Key}
 use Rattle.wsm_turns.specs.Numbered.{Numbered}
 use Rattle.wsm_turns.specs.Heard.{heard}
 use Rattle.wsm_turns.specs.Noted.{noted_by, raised}
-use Rattle.wsm_turns.specs.Turns.{Kept, Setting, Spoken, Turn, at_end, fed_with, going, is_double, numbered, start_of, stamp_of, turn_by}
+use Rattle.wsm_turns.specs.Turns.{Kept, Setting, Spoken, Turn, at_end, fed_with, going, is_double, numbered, start_of, stamp_of, turn_by, watermark}
 use Rattle.wsm_row_watermarks.specs.declared.counts.Counts.{Counts}
 use Rattle.wsm_row_watermarks.specs.declared.counts.Totals.{Totals}
+use Rattle.wsm_row_watermarks.specs.Latest.{latest_time}
 use Rattle.wsm_row_watermarks.specs.Lines.{Line, Said}
 
 -- ---- texts
@@ -157,10 +158,13 @@ double_count w (line ∷ before) = double_count w before + one_if (is_left_out w
 abbrev pub counts_of : Setting → List Line → Counts
 counts_of w lines = record { lines = length lines; unread = counter (unread_count lines); doubles = counter (double_count w lines) }
 
--- what rows came to: how many records were late when they went on is by the query's own clock, as a run over what is written tells it
+-- what rows came to: how many records were late when they went on, and which the latest is, is by the query's own clock, as of a run over
+-- what is written
 abbrev pub totals_of : Setting → List Line → Totals
 totals_of w lines = let s = state_of w lines in record {
   counts = counts_of w lines;
   late = counter (late_count w.clock w.shape w.declared (gone w lines));
+  latest = latest_time w.clock w.shape w.declared (gone w lines);
+  mark = watermark w (gone w lines);
   heard = heard s.clocks s.kept;
 }

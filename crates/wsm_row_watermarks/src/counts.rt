@@ -20,6 +20,10 @@ pub struct Totals {
     pub counts: Counts,
     /// How many records were late by the query's clock when they went on, at most the greatest `u64`.
     pub late: u64,
+    /// The greatest time of the records that the query's clock takes as they went on, if there are any.
+    pub latest: Option<i64>,
+    /// The query's watermark behind all that went on.
+    pub mark: i64,
     /// What the clocks came to behind the last line, where there are any. What waited then went on.
     pub heard: Option<Heard>,
 }

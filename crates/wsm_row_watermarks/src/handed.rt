@@ -6,6 +6,7 @@ ghost use Rattle.wsm_record.specs.Event.{Event as AnyEvent, event_of};
 ghost use Rattle.wsm_windows.specs.Limits.{is_time as lies_in_time};
 ghost use Rattle.wsm_admission.specs.Clock.{IsTimely, is_source, source_mark};
 ghost use Rattle.wsm_admission.specs.declared.clock.Clock.{Clock as AnyClock};
+ghost use Rattle.wsm_row_watermarks.specs.Latest.{later, latest_with};
 
 use crate::times::Times;
 use itoa::Buffer;
@@ -25,6 +26,8 @@ pub struct Handed {
     admission: Admission,
     // The watermark of the first source.
     first: i64,
+    // The greatest time of the records that the clock takes.
+    latest: Option<i64>,
     /// The number of the line.
     pub(crate) number: u64,
     /// The text of the line.
@@ -42,6 +45,7 @@ impl Handed {
     ghost use Rattle.wsm_turns.specs.Turns.{Setting, watermark};
     ghost use Rattle.wsm_row_watermarks.specs.Turns.{event_text, last_row, mark_row, record_text, source_text, with_feed};
     ghost use Rattle.wsm_row_watermarks.specs.Handed.{HearsOnly, Serves};
+    ghost use Rattle.wsm_row_watermarks.specs.Latest.{latest_time};
 
     /// Before the first line.
     pub fn new(alloc: Global, schema: Schema, times: Times) -> Handed
@@ -53,6 +57,7 @@ impl Handed {
             schema,
             shape: times.shape,
             first: times.clock.start,
+            latest: None,
             number: 0,
             line: Vec::new(alloc),
             text: Vec::new(alloc),
@@ -99,6 +104,13 @@ impl Handed {
         self.admission.late()
     }
 
+    /// The greatest time of the records that the clock takes.
+    pub fn latest(&self) -> Option<i64>
+        ensures { (w : Setting) (past : List AnyEvent) → Serves w self.now past → result ≡ latest_time w.clock w.shape w.declared past }
+    {
+        self.latest
+    }
+
     /// The line goes on.
     pub fn add_line(&mut self) -> Result<(), AllocError>
         ensures text { OnOk result (self.new.text.items ≡ self.old.text.items ++ with_feed self.old.line.items) }
@@ -120,14 +132,14 @@ impl Handed {
         self.add_line()
     }
 
-    // Takes note of an event, by which the watermark may rise, or which may be late.
+    // Takes note of an event, by which the watermark may rise, or which may be late or the latest.
     fn hear(&mut self, event: &Event)
         ensures serves { (w : Setting) (past : List AnyEvent) → Serves w self.old past → Serves w self.new (event_of event.now ∷ past) }
         ensures others { HearsOnly self.old self.new }
     {
         self.first = first_behind(self.first, event);
-        // What it does is asked for later.
-        let _ = self.admission.decide(&self.schema, &self.shape, event);
+        let answer = self.admission.decide(&self.schema, &self.shape, event);
+        self.latest = latest_behind(self.latest, event, answer.is_err());
     }
 
     // Adds the row of a record: the line, where it is the line's own.
@@ -181,7 +193,8 @@ impl Handed {
 
     // Adds the row of an event of the line of a number.
     fn add_event(&mut self, number: u64, event: &Event) -> Result<(), AllocError>
-        ensures text { OnOk result (self.new.text.items ≡ self.old.text.items ++ event_text self.old.schema self.old.number self.old.line.items number (event_of event.now)) }
+        ensures text { OnOk result (self.new.text.items ≡ self.old.text.items
+            ++ event_text self.old.schema self.old.number self.old.line.items number (event_of event.now)) }
         ensures others { self.new ≡ record self.old { text = self.new.text } }
     {
         match event {
@@ -204,6 +217,32 @@ impl Taker for Handed {
     fn take(&mut self, number: u64, event: &Event) -> Result<(), AllocError> {
         self.hear(event);
         self.add_event(number, event)
+    }
+}
+
+// The greatest time that is taken behind an event.
+fn latest_behind(latest: Option<i64>, event: &Event, is_refused: bool) -> Option<i64>
+    ensures { result ≡ latest_with latest (event_of event.now) is_refused }
+{
+    match event {
+        Event::Record { time, .. } => {
+            if is_refused {
+                latest
+            } else {
+                later(latest, *time)
+            }
+        }
+        Event::Watermark { .. } => latest,
+    }
+}
+
+// The later of two times.
+fn later(latest: Option<i64>, time: i64) -> Option<i64>
+    ensures { result ≡ later latest time }
+{
+    match latest {
+        None => Some(time),
+        Some(before) => Some(before.max(time)),
     }
 }
 

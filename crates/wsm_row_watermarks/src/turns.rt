@@ -92,7 +92,8 @@ impl RowTurns {
 
     /// Takes the turn of a line. The rows are then those that go on for it.
     pub fn take(&mut self, line: &[u8]) -> Result<(), AllocError>
-        ensures { (w : Setting) (once : Option ℕ) (before : List (List ℕ)) → Fits w once self.old before → OnOk result (Turned w once self.new before line.now) }
+        ensures { (w : Setting) (once : Option ℕ) (before : List (List ℕ)) → Fits w once self.old before →
+            OnOk result (Turned w once self.new before line.now) }
     {
         let Some(number) = self.counts.lines.checked_add(1) else {
             return Err(AllocError);
@@ -108,7 +109,9 @@ impl RowTurns {
 
     // A line that would not be one row goes on as one that says so.
     fn refuse_line(&mut self) -> Result<(), AllocError>
-        ensures { (w : Setting) (s : State) → Begins w self.old s [] → OnOk result (let line = line_of w.declared self.old.once None in Goes w self.old self.new (row_turn w s self.old.counts.lines line) (is_unread line) false) }
+        ensures { (w : Setting) (s : State) → Begins w self.old s [] →
+            OnOk result (let line = line_of w.declared self.old.once None in Goes w self.old self.new (row_turn w s self.old.counts.lines line)
+            (is_unread line) false) }
     {
         let handed = &mut self.handed;
         handed.line.extend_from_slice(b"unread")?;
@@ -117,7 +120,9 @@ impl RowTurns {
 
     // Takes the turn of the text of a line.
     fn take_text(&mut self, text: &[u8]) -> Result<(), AllocError>
-        ensures { (w : Setting) (s : State) → Begins w self.old s [] → OnOk result (let line = line_of w.declared self.old.once (Some text.now) in Goes w self.old self.new (row_turn w s self.old.counts.lines line) (is_unread line) (is_left_out w s line.said)) }
+        ensures { (w : Setting) (s : State) → Begins w self.old s [] →
+            OnOk result (let line = line_of w.declared self.old.once (Some text.now) in Goes w self.old self.new (row_turn w s self.old.counts.lines line)
+            (is_unread line) (is_left_out w s line.said)) }
     {
         let handed = &mut self.handed;
         self.row.read(self.once, text, &mut handed.line)?;
@@ -130,7 +135,8 @@ impl RowTurns {
 
     // The turn of a line that is no row.
     fn refuse(&mut self) -> Result<(), AllocError>
-        ensures { (w : Setting) (s : State) (line : Line) (why : RowFault) → line.said ≡ Err why → Begins w self.old s line.text → OnOk result (Goes w self.old self.new (row_turn w s self.old.counts.lines line) (is_unread line) false) }
+        ensures { (w : Setting) (s : State) (line : Line) (why : RowFault) → line.said ≡ Err why → Begins w self.old s line.text →
+            OnOk result (Goes w self.old self.new (row_turn w s self.old.counts.lines line) (is_unread line) false) }
     {
         if !self.handed.is_blank() {
             self.counts.unread = self.counts.unread.saturating_add(1);
@@ -141,7 +147,8 @@ impl RowTurns {
     // The turn of the event that was read.
     fn serve(&mut self) -> Result<(), AllocError>
         requires { IsJudged self.old }
-        ensures { (w : Setting) (s : State) (line : Line) → line.said ≡ Ok (spoken_read self.old) → Begins w self.old s line.text → OnOk result (Goes w self.old self.new (row_turn w s self.old.counts.lines line) false (is_left_out w s line.said)) }
+        ensures { (w : Setting) (s : State) (line : Line) → line.said ≡ Ok (spoken_read self.old) → Begins w self.old s line.text →
+            OnOk result (Goes w self.old self.new (row_turn w s self.old.counts.lines line) false (is_left_out w s line.said)) }
     {
         match self.events.event() {
             Event::Record { .. } => self.serve_record(),
@@ -154,7 +161,9 @@ impl RowTurns {
 
     // The turn of a watermark, which counts as told where it has a time.
     fn serve_mark(&mut self, told: Option<u64>) -> Result<(), AllocError>
-        ensures { (w : Setting) (s : State) (line : Line) (source : Option ℕ) (time : ℤ) → event_read self.old.events ≡ Watermark source time → Begins w self.old s line.text → OnOk result (Goes w self.old self.new (marked w s self.old.counts.lines line (Watermark source time) told) false false) }
+        ensures { (w : Setting) (s : State) (line : Line) (source : Option ℕ) (time : ℤ) → event_read self.old.events ≡ Watermark source time →
+            Begins w self.old s line.text →
+            OnOk result (Goes w self.old self.new (marked w s self.old.counts.lines line (Watermark source time) told) false false) }
     {
         match told {
             None => self.handed.add_marked_line(self.events.event()),
@@ -164,7 +173,9 @@ impl RowTurns {
 
     // The turn of a watermark that counts as told: what waits and isn't ahead of it goes in front of it.
     fn serve_told(&mut self, mark: u64) -> Result<(), AllocError>
-        ensures { (w : Setting) (s : State) (line : Line) (source : Option ℕ) (time : ℤ) → event_read self.old.events ≡ Watermark source time → Begins w self.old s line.text → OnOk result (Goes w self.old self.new (marked w s self.old.counts.lines line (Watermark source time) (Some mark)) false false) }
+        ensures { (w : Setting) (s : State) (line : Line) (source : Option ℕ) (time : ℤ) → event_read self.old.events ≡ Watermark source time →
+            Begins w self.old s line.text →
+            OnOk result (Goes w self.old self.new (marked w s self.old.counts.lines line (Watermark source time) (Some mark)) false false) }
     {
         take_mark(&mut self.waiting, mark, self.counts.lines, &mut self.handed)?;
         self.handed.add_marked_line(self.events.event())
@@ -173,7 +184,8 @@ impl RowTurns {
     // The turn of a record.
     fn serve_record(&mut self) -> Result<(), AllocError>
         requires { IsJudged self.old }
-        ensures { (w : Setting) (s : State) (line : Line) → Begins w self.old s line.text → OnOk result (let x = spoken_read self.old in Goes w self.old self.new (recorded w s self.old.counts.lines line x) false (is_left_out w s (Ok x))) }
+        ensures { (w : Setting) (s : State) (line : Line) → Begins w self.old s line.text →
+            OnOk result (let x = spoken_read self.old in Goes w self.old self.new (recorded w s self.old.counts.lines line x) false (is_left_out w s (Ok x))) }
     {
         let values_fit = self.events.values_fit();
         match stamp_judged(self.handed.schema(), self.events.event(), values_fit) {
@@ -185,7 +197,8 @@ impl RowTurns {
     // The turn of a record with its stamp.
     fn serve_stamped(&mut self, stamp: Stamp) -> Result<(), AllocError>
         requires { stamp.time < 2 ^ 63 }
-        ensures { (w : Setting) (s : State) (line : Line) → stamp_of w.declared (event_read self.old.events) ≡ Some stamp → Begins w self.old s line.text → OnOk result (let x = spoken_read self.old in Goes w self.old self.new (recorded w s self.old.counts.lines line x) false (is_left_out w s (Ok x))) }
+        ensures { (w : Setting) (s : State) (line : Line) → stamp_of w.declared (event_read self.old.events) ≡ Some stamp → Begins w self.old s line.text →
+            OnOk result (let x = spoken_read self.old in Goes w self.old self.new (recorded w s self.old.counts.lines line x) false (is_left_out w s (Ok x))) }
     {
         let is_new = passes(
             self.row.identifier(),
@@ -216,6 +229,8 @@ impl RowTurns {
         Ok(Totals {
             counts: self.counts,
             late: self.handed.late(),
+            latest: self.handed.latest(),
+            mark: self.handed.mark(),
             heard: clocks_heard(&self.waiting),
         })
     }

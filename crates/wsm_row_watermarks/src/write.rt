@@ -74,8 +74,10 @@ fn write_rows<R: Read + Drop, D: Device, L: Listener>(
     listener: &mut L,
 ) -> Result<Totals, LogEnd>
     requires { D.has_failed out.old ≡ false }
-    ensures written { (known : Option (List ℕ)) (w : Setting) (once : Option ℕ) → Follows LONGEST R.remaining known [] lines.old → Fits w once turns.old [] → IfOk result (IsWritten known w once last (D.taken out.old) (D.taken out.new)) }
-    ensures broken { (known : Option (List ℕ)) (w : Setting) (once : Option ℕ) → Follows LONGEST R.remaining known [] lines.old → Fits w once turns.old [] → IfErr result (IsBroken known w once last (D.taken out.old) (D.taken out.new)) }
+    ensures written { (known : Option (List ℕ)) (w : Setting) (once : Option ℕ) → Follows LONGEST R.remaining known [] lines.old → Fits w once turns.old [] →
+        IfOk result (IsWritten known w once last (D.taken out.old) (D.taken out.new)) }
+    ensures broken { (known : Option (List ℕ)) (w : Setting) (once : Option ℕ) → Follows LONGEST R.remaining known [] lines.old → Fits w once turns.old [] →
+        IfErr result (IsBroken known w once last (D.taken out.old) (D.taken out.new)) }
     ensures flushed { OnOk result (D.is_flushed out.new ≡ true) }
     ensures write_failed { result ≡ Err LogEnd.WriteFailed → D.has_failed out.new ≡ true }
 {
@@ -91,8 +93,10 @@ fn take_lines<R: Read + Drop, D: Device, L: Listener>(
     listener: &mut L,
 ) -> Result<(), LogEnd>
     requires { D.has_failed out.old ≡ false }
-    ensures taken { (known : Option (List ℕ)) (w : Setting) (once : Option ℕ) → Follows LONGEST R.remaining known [] lines.old → Fits w once turns.old [] → IfOk result (λ _. (read : List (List ℕ)) × AreAll LONGEST known read × Stands w once read (D.taken out.old) (D.taken out.new) turns.new) }
-    ensures broken { (known : Option (List ℕ)) (w : Setting) (once : Option ℕ) (last : Bool) → Follows LONGEST R.remaining known [] lines.old → Fits w once turns.old [] → IfErr result (IsBroken known w once last (D.taken out.old) (D.taken out.new)) }
+    ensures taken { (known : Option (List ℕ)) (w : Setting) (once : Option ℕ) → Follows LONGEST R.remaining known [] lines.old → Fits w once turns.old [] →
+        IfOk result (λ _. (read : List (List ℕ)) × AreAll LONGEST known read × Stands w once read (D.taken out.old) (D.taken out.new) turns.new) }
+    ensures broken { (known : Option (List ℕ)) (w : Setting) (once : Option ℕ) (last : Bool) → Follows LONGEST R.remaining known [] lines.old →
+        Fits w once turns.old [] → IfErr result (IsBroken known w once last (D.taken out.old) (D.taken out.new)) }
     ensures works { OnOk result (D.has_failed out.new ≡ false) }
     ensures write_failed { result ≡ Err LogEnd.WriteFailed → D.has_failed out.new ≡ true }
 {
@@ -107,9 +111,11 @@ fn take_lines<R: Read + Drop, D: Device, L: Listener>(
 // Writes what waits, and has all that was written leave.
 fn finish<D: Device>(turns: &mut RowTurns, last: bool, out: &mut D) -> Result<Totals, LogEnd>
     requires { D.has_failed out.old ≡ false }
-    ensures completes { (known : Option (List ℕ)) (w : Setting) (once : Option ℕ) (read : List (List ℕ)) (old : Option (List ℕ)) → AreAll LONGEST known read → Stands w once read old (D.taken out.old) turns.old →
+    ensures completes { (known : Option (List ℕ)) (w : Setting) (once : Option ℕ) (read : List (List ℕ)) (old : Option (List ℕ)) → AreAll LONGEST known read →
+        Stands w once read old (D.taken out.old) turns.old →
         IfOk result (Completes known w once last read old (D.taken out.new)) }
-    ensures ends_early { (known : Option (List ℕ)) (w : Setting) (once : Option ℕ) (read : List (List ℕ)) (old : Option (List ℕ)) → AreAll LONGEST known read → Stands w once read old (D.taken out.old) turns.old →
+    ensures ends_early { (known : Option (List ℕ)) (w : Setting) (once : Option ℕ) (read : List (List ℕ)) (old : Option (List ℕ)) → AreAll LONGEST known read →
+        Stands w once read old (D.taken out.old) turns.old →
         IfErr result (EndsEarly known w once last read old (D.taken out.new)) }
     ensures flushed { OnOk result (D.is_flushed out.new ≡ true) }
     ensures write_failed { result ≡ Err LogEnd.WriteFailed → D.has_failed out.new ≡ true }

@@ -98,7 +98,8 @@ impl ClockNames {
     // Whose clock it is that a line names, or names none.
     fn voice(&mut self, name: Option<&[u8]>) -> Result<Voice, AllocError>
         ensures most { self.new.most ≡ self.old.most }
-        ensures voice { IfOk result (λ v. record { voice = v; names = self.new.names } ≡ voiced_by self.old.most self.old.names (option_map (λ t. t.now) name.entry)) }
+        ensures voice { IfOk result (λ v. record { voice = v; names = self.new.names }
+            ≡ voiced_by self.old.most self.old.names (option_map (λ t. t.now) name.entry)) }
         ensures within { IfOk result (IsWithin self.old.most) }
     {
         match name {
@@ -110,7 +111,8 @@ impl ClockNames {
     // Whose clock it is that has a name.
     fn numbered(&mut self, name: &[u8]) -> Result<Voice, AllocError>
         ensures most { self.new.most ≡ self.old.most }
-        ensures voice { IfOk result (λ v. record { voice = v; names = self.new.names } ≡ numbered_by self.old.most self.old.names name.now (position (bytes_eq name.now) self.old.names)) }
+        ensures voice { IfOk result (λ v. record { voice = v; names = self.new.names }
+            ≡ numbered_by self.old.most self.old.names name.now (position (bytes_eq name.now) self.old.names)) }
         ensures within { IfOk result (IsWithin self.old.most) }
     {
         match self.names.get_index_of(name) {
@@ -157,8 +159,10 @@ pub fn open_names(alloc: Global, named: Option<usize>) -> Result<Option<ClockNam
 ///
 /// Memory for a new name was refused.
 pub fn voice_of(names: &mut Option<ClockNames>, name: Option<&[u8]>) -> Result<Voice, AllocError>
-    ensures voice { (named : Option ℕ) (before : List (List ℕ)) → Knows named names.old before → IfOk result (λ v. v ≡ (voiced named before (option_map (λ t. t.now) name.entry)).voice) }
-    ensures names { (named : Option ℕ) (before : List (List ℕ)) → Knows named names.old before → IfOk result (λ _. Knows named names.new (voiced named before (option_map (λ t. t.now) name.entry)).names) }
+    ensures voice { (named : Option ℕ) (before : List (List ℕ)) → Knows named names.old before →
+        IfOk result (λ v. v ≡ (voiced named before (option_map (λ t. t.now) name.entry)).voice) }
+    ensures names { (named : Option ℕ) (before : List (List ℕ)) → Knows named names.old before →
+        IfOk result (λ _. Knows named names.new (voiced named before (option_map (λ t. t.now) name.entry)).names) }
     ensures within { (named : Option ℕ) (before : List (List ℕ)) (keys : ℕ) (stamp : AnyStamp) → Knows named names.old before → stamp.clock < keys →
         IfOk result (λ v. IfSome (stamp_by v stamp) (λ s. s.clock < unwrap_or named keys)) }
 {

@@ -28,7 +28,8 @@ impl Identifiers {
     /// The identifiers that others have come to, by a query's clock and windows.
     pub fn resume(doubles: Doubles, clock: Clock, shape: Shape) -> Identifiers
         requires { IsShape shape }
-        ensures { (w : Setting) (mark : ℤ) (memory : Memory) → clock ≡ w.clock → shape ≡ w.shape → Recalls w.clock w.shape mark doubles memory → Remembers w mark result memory }
+        ensures { (w : Setting) (mark : ℤ) (memory : Memory) → clock ≡ w.clock → shape ≡ w.shape → Recalls w.clock w.shape mark doubles memory →
+            Remembers w mark result memory }
     {
         Identifiers {
             doubles,
@@ -49,11 +50,12 @@ impl Identifiers {
     /// # Errors
     ///
     /// Memory was refused.
+    #[inline(always)]
     pub fn pass(&mut self, identifier: &[u8], time: u64, mark: i64) -> Result<bool, AllocError>
         requires { time < 2 ^ 63 }
         ensures { (w : Setting) (memory : Memory) → Remembers w mark self.old memory → IfOk result (Passes w mark self.new (Some identifier.now) time memory) }
     {
         self.doubles
-            .pass(identifier, time as i64, &self.clock, self.shape, mark)
+            .pass(identifier, time as i64, &self.clock, &self.shape, mark)
     }
 }

@@ -70,7 +70,8 @@ impl Waiting {
         told: u64,
     ) -> Result<Waiting, AllocError>
         requires { clocks.room ≤ MOST_HELD }
-        ensures { (count : ℕ) (stamps : List AnyStamp) → marks.rule ≡ clocks.rule → length marks.table.said ≡ count → FitsMarks marks stamps → IfOk result (λ w. Hears clocks count w stamps told []) }
+        ensures { (count : ℕ) (stamps : List AnyStamp) → marks.rule ≡ clocks.rule → length marks.table.said ≡ count → FitsMarks marks stamps →
+            IfOk result (λ w. Hears clocks count w stamps told []) }
     {
         Ok(Waiting {
             marks,
@@ -219,7 +220,8 @@ pub fn take_record<T: Taker>(
     event: &Event,
     taker: &mut T,
 ) -> Result<(), AllocError>
-    ensures { (clocks : Option AnyClocks) (count : ℕ) (k : Kept) → Hear clocks count waiting.old k.stamps k.told k.waits → stamp.clock < count → length k.stamps < number →
+    ensures { (clocks : Option AnyClocks) (count : ℕ) (k : Kept) → Hear clocks count waiting.old k.stamps k.told k.waits → stamp.clock < count →
+        length k.stamps < number →
         OnOk result (Takes clocks count k waiting.new (T.took taker.old taker.new) stamp number (event_of event.now)) }
 {
     match waiting {
@@ -331,8 +333,10 @@ fn hand_on<T: Taker>(
     taker: &mut T,
 ) -> Result<(), AllocError>
     ensures room { held.new.room ≡ held.old.room }
-    ensures rows { let row = timed time number (event_of event.now) in OnOk result (held.new.rows ≡ waiting (is_near (top + ahead) row) held.old.room row held.old.rows) }
-    ensures took { let row = timed time number (event_of event.now) in OnOk result (T.took taker.old taker.new (map (numbered number) (handed (is_near (top + ahead) row) held.old.room row held.old.rows))) }
+    ensures rows { let row = timed time number (event_of event.now) in OnOk result
+        (held.new.rows ≡ waiting (is_near (top + ahead) row) held.old.room row held.old.rows) }
+    ensures took { let row = timed time number (event_of event.now) in OnOk result
+        (T.took taker.old taker.new (map (numbered number) (handed (is_near (top + ahead) row) held.old.room row held.old.rows))) }
 {
     if time.saturating_sub(top) <= ahead {
         return taker.take(number, event);

@@ -1,9 +1,10 @@
 //! The watermark that follows the time that clocks agree on.
 
-ghost use Rattle.std.specs.Prelude.{◌≡◌, ◌+◌, ◌*◌, ◌/◌, ◌<◌, ◌≤◌, [], ◌∷◌, List, IfOk, length, max};
+ghost use Rattle.std.specs.Prelude.{◌≡◌, ◌+◌, ◌-◌, ◌*◌, ◌/◌, ◌<◌, ◌≤◌, [], ◌∷◌, List, IfOk, length, max};
 ghost use Rattle.wsm_watermarks.specs.declared.stamp.Stamp.{Stamp as AnyStamp};
-ghost use Rattle.wsm_watermarks.specs.Agreement.{behind, raised_by, tellers, voices};
+ghost use Rattle.wsm_watermarks.specs.Agreement.{agreed, behind, raised_by, tellers, voices};
 ghost use Rattle.wsm_watermarks.specs.Held.{mark_for};
+ghost use Rattle.wsm_watermarks.specs.Table.{speaking};
 ghost use Rattle.wsm_watermarks.specs.Watermarks.{FitsMarks, come_to};
 
 use crate::clocks::{Clocks, MOST_AGREEING};
@@ -161,6 +162,7 @@ impl Watermarks {
     }
 
     /// Takes note of a stamp, and answers the new watermark where it raises it.
+    #[inline(always)]
     pub fn tell(&mut self, stamp: Stamp) -> Option<u64>
         requires clock { stamp.clock < length self.old.table.said }
         requires room { self.old.table.heard < MOST_STAMPS }
@@ -174,17 +176,31 @@ impl Watermarks {
         if self.table.ahead() < self.rule.agree {
             return None;
         }
-        let since = self.table.heard().saturating_sub(self.rule.forget);
-        self.table.gather(since, &mut self.clocks);
-        let mark = mark_behind(self.rule, self.clocks.agreed());
-        self.table
-            .count(since, need_after(self.rule, self.mark.max(mark)));
+        let mark = look_at_all(&mut self.table, &mut self.clocks, self.rule, self.mark);
         if mark <= self.mark {
             return None;
         }
         self.mark = mark;
         Some(mark)
     }
+}
+
+// The watermark that all clocks agree on which speak. From then on those are counted that may raise it.
+#[cold]
+#[inline(never)]
+fn look_at_all(table: &mut Table, clocks: &mut Clocks, rule: Rule, mark: u64) -> u64
+    requires { 0 < rule.step }
+    ensures mark { result ≡ behind rule (agreed clocks.old.most
+        (speaking (table.old.heard - rule.forget) table.old.need table.old.said (length table.old.said))) }
+    ensures most { clocks.new.most ≡ clocks.old.most }
+    ensures table { table.new ≡ record table.old { since = table.old.heard - rule.forget; need = table.new.need } }
+    ensures need { table.new.need ≤ max mark result / rule.step * rule.step + rule.step + rule.bound }
+{
+    let since = table.heard().saturating_sub(rule.forget);
+    table.gather(since, clocks);
+    let agreed = mark_behind(rule, clocks.agreed());
+    table.count(since, need_after(rule, mark.max(agreed)));
+    agreed
 }
 
 // The earliest agreed time that raises a watermark, or the last time that there is where that is earlier.

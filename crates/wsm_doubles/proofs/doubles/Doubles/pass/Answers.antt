@@ -7,7 +7,7 @@ use Rattle.wsm_doubles.proofs.doubles.Doubles.pass.Goals as goal
 
 pub returns-clause-noted : goal.returns-clause-noted
 returns-clause-noted c = λ memory r _.
-    noted c.args.clock.now c.args.shape c.args.mark _ c.args.self.now _ c.make_room.new.table.entries memory c.args.identifier.now c.args.time _
+    noted c.args.clock.now c.args.shape.now c.args.mark _ c.args.self.now _ c.make_room.new.table.entries memory c.args.identifier.now c.args.time _
     (to_z-of_z w64 c.args.mark c.ranges.mark) (to_z-of_z w64 c.args.time c.ranges.time) r
-    (λ later rises. c.make_room.ensures.live later rises ∙ ap (λ (k : Kept). live c.args.clock.now c.args.shape later k.entries) c.self.view_is)
+    (λ later rises. c.make_room.ensures.live later rises ∙ ap (λ (k : Kept). live c.args.clock.now c.args.shape.now later k.entries) c.self.view_is)
     (ap (λ (t : Tabled). t.entries) c.in_ok-push.ensures.added)

@@ -1,4 +1,4 @@
-use Rattle.std.proofs.Common.{◌∙◌, [], SFits, ap, rules, subst, w64}
+use Rattle.std.proofs.Common.{◌∙◌, [], SFits, ap, refl, rules, subst, w64}
 use Rattle.std.proofs.lemmas.Int.{to_z-of_z}
 use Rattle.wsm_record.specs.Schema.{Declared}
 use Rattle.wsm_admission.specs.declared.clock.Clock.{Clock}
@@ -15,4 +15,5 @@ returns-clause-serves c = λ w declared clock shape.
         fits = subst (λ (d : Declared). Fits w.shape d c.new.result []) declared (c.new.ensures.fits w.shape);
         first = to_z-of_z w64 c.args.times.clock.start whole ∙ ap (λ (a : Clock). a.start) clock;
       };
+      latest = refl;
     }

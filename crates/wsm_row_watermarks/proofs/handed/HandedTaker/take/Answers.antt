@@ -16,7 +16,7 @@ returns c = on_ok_weaker c.add_event.result (λ text. λ w past serves.
     let same = c.hear.ensures.others in
     let row = event_text w.declared old.number old.line.items c.args.number (event_of c.args.event.now) in
     record {
-      serves = subst (λ (t : Handed). Serves w t (event_of c.args.event.now ∷ past)) (sym others) (record { declared = heard.declared; shape = heard.shape; marks = heard.marks });
+      serves = subst (λ (t : Handed). Serves w t (event_of c.args.event.now ∷ past)) (sym others) (record { declared = heard.declared; shape = heard.shape; marks = heard.marks; latest = heard.latest });
       text = text
           ∙ (λ i. (same.text i).items ++ event_text (heard.declared i) (same.number i) (same.line i).items c.args.number (event_of c.args.event.now))
           ∙ ap (λ (l : List ℕ). old.text.items ++ l) (sym (append-nil row));

@@ -11,7 +11,7 @@ returns c = λ w s begins.
     let line = line_of w.declared old.once None in
     on_ok_weaker c.refuse.result (λ goes. record { holds = goes.holds; text = goes.text; once = goes.once; lines = goes.lines; unread = goes.unread; doubles = goes.doubles })
     (c.refuse.ensures w s line BadTag refl (record {
-      holds = record { told = record { declared = begins.holds.told.declared; shape = begins.holds.told.shape; marks = begins.holds.told.marks }; waiting = begins.holds.waiting; remembers = begins.holds.remembers };
+      holds = record { told = record { declared = begins.holds.told.declared; shape = begins.holds.told.shape; marks = begins.holds.told.marks; latest = begins.holds.told.latest }; waiting = begins.holds.waiting; remembers = begins.holds.remembers };
       line = c.in_ok-extend_from_slice.ensures.items ∙ ap (λ (l : List ℕ). l ++ codes "unread") begins.line;
       number = begins.number;
       few = begins.few;

@@ -21,7 +21,7 @@ begun w once before old number handed fits next others numbered line =
     let told = fits.holds.told in
     let lines : old.counts.lines ≡ length (read_by w once before) = ap (λ (x : Counts). x.lines) fits.counts in record {
       holds = record {
-        told = subst (λ (t : Handed). Serves w t (state_of w (read_by w once before)).kept.fed) (sym others) (record { declared = told.declared; shape = told.shape; marks = told.marks });
+        told = subst (λ (t : Handed). Serves w t (state_of w (read_by w once before)).kept.fed) (sym others) (record { declared = told.declared; shape = told.shape; marks = told.marks; latest = told.latest });
         waiting = fits.holds.waiting;
         remembers = fits.holds.remembers;
       };

@@ -29,7 +29,7 @@ returns-in-Ok c = λ w s begins.
     subst (λ (b : Bool). Goes w old c.serve.new.self (row_turn w s n line) b (is_left_out w s line.said)) (sym read)
     (record { holds = goes.holds; text = goes.text; once = goes.once; lines = goes.lines; unread = goes.unread; doubles = goes.doubles }))
     (c.serve.ensures w s line said (record {
-      holds = record { told = record { declared = begins.holds.told.declared; shape = begins.holds.told.shape; marks = begins.holds.told.marks }; waiting = begins.holds.waiting; remembers = begins.holds.remembers };
+      holds = record { told = record { declared = begins.holds.told.declared; shape = begins.holds.told.shape; marks = begins.holds.told.marks; latest = begins.holds.told.latest }; waiting = begins.holds.waiting; remembers = begins.holds.remembers };
       line = c.in_ok-read.ensures.text ∙ ap (λ (l : List ℕ). l ++ taken.text) begins.line;
       number = begins.number;
       few = begins.few;
@@ -54,7 +54,7 @@ returns-in-Err-Fault c = λ w s begins.
     subst (λ (b : Bool). Goes w old c.refuse.new.self (row_turn w s n line) (is_unread line) b) (sym stays)
     (record { holds = goes.holds; text = goes.text; once = goes.once; lines = goes.lines; unread = goes.unread; doubles = goes.doubles }))
     (c.refuse.ensures w s line why said (record {
-      holds = record { told = record { declared = begins.holds.told.declared; shape = begins.holds.told.shape; marks = begins.holds.told.marks }; waiting = begins.holds.waiting; remembers = begins.holds.remembers };
+      holds = record { told = record { declared = begins.holds.told.declared; shape = begins.holds.told.shape; marks = begins.holds.told.marks; latest = begins.holds.told.latest }; waiting = begins.holds.waiting; remembers = begins.holds.remembers };
       line = c.in_ok-read.ensures.text ∙ ap (λ (l : List ℕ). l ++ taken.text) begins.line;
       number = begins.number;
       few = begins.few;

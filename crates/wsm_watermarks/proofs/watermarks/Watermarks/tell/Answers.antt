@@ -1,6 +1,5 @@
 use Rattle.std.proofs.Common.{◌≡◌, ◌≤◌, ◌<◌, ◌∙◌, ◌+◌, ◌*◌, ◌/◌, ◌-◌, ◌∷◌, ℕ, None, Some, ap, arith, length, subst, sym}
 use Rattle.wsm_watermarks.specs.Agreement.{agreed, behind, raised_by, voices}
-use Rattle.wsm_watermarks.specs.Clocks.{Fits}
 use Rattle.wsm_watermarks.specs.Table.{Sayings, speaking}
 use Rattle.wsm_watermarks.specs.Watermarks.{FitsMarks, Marking}
 use Rattle.wsm_watermarks.proofs.Tables.{behind_low, fits_alike, looked_high, looked_low, fits_put, mark_goes, mark_stays, none_raised, one_raised, same_voices}
@@ -46,16 +45,12 @@ returns-then-mark-self-clause-fits c past fits =
     let heard = ap (λ (k : Sayings). k.heard) c.put.ensures in
     let table = fits_put a.table k s past within (ap (λ (k : Sayings). k.said) c.put.ensures) heard old.table in
     let speak = voices a.rule.forget (s ∷ past) in
-    let since : c.saturating_sub-since.result ≡ k.heard - a.rule.forget = c.saturating_sub-since.ensures ∙ ap (λ (n : ℕ). n - a.rule.forget) c.heard.ensures in
     let ahead = speaking (k.heard - a.rule.forget) k.need k.said (length k.said) in
-    let gathered : Fits c.gather.new.clocks ahead = subst (λ (n : ℕ). Fits c.gather.new.clocks (speaking n k.need k.said (length k.said))) since c.gather.ensures.fits in
-    let most = c.gather.ensures.most ∙ c.self.invariant.0 in
-    let now = c.agreed.ensures ahead gathered ∙ ap (λ (n : ℕ). agreed n ahead) most in
-    let is : c.mark_behind-mark.result ≡ behind a.rule (agreed a.rule.agree ahead) = c.mark_behind-mark.ensures ∙ ap (behind a.rule) now in
+    let is : c.look_at_all-mark.result ≡ behind a.rule (agreed a.rule.agree ahead) = c.look_at_all-mark.ensures.mark ∙ ap (λ (n : ℕ). behind a.rule (agreed n ahead)) c.self.invariant.0 in
     let need = ap (λ (k : Sayings). k.need) c.put.ensures in
     let low : k.need ≤ (a.mark / a.rule.step * a.rule.step + a.rule.step + a.rule.bound) = omega (arith, need, c.self.invariant.4) in
     let alike = λ (d t : ℕ). same_voices k (s ∷ past) a.rule.forget d t table in
-    let counted = fits_alike k c.count.new.self (s ∷ past) (ap (λ (k : Sayings). k.said) c.count.ensures) (ap (λ (k : Sayings). k.heard) c.count.ensures) table in
+    let counted = fits_alike k c.look_at_all-mark.new.table (s ∷ past) (ap (λ (k : Sayings). k.said) c.look_at_all-mark.ensures.table) (ap (λ (k : Sayings). k.heard) c.look_at_all-mark.ensures.table) table in
     let mark = mark_stays a.rule past s a.mark old.mark (looked_low a.rule c.self.invariant.1 c.self.invariant.2 a.mark k.need low ahead speak alike (omega (arith, is, c.if-mark-self.true))) in
     record { table = counted; mark = mark }
 
@@ -69,16 +64,12 @@ returns-then-mark-self-clause-raised c past fits =
     let heard = ap (λ (k : Sayings). k.heard) c.put.ensures in
     let table = fits_put a.table k s past within (ap (λ (k : Sayings). k.said) c.put.ensures) heard old.table in
     let speak = voices a.rule.forget (s ∷ past) in
-    let since : c.saturating_sub-since.result ≡ k.heard - a.rule.forget = c.saturating_sub-since.ensures ∙ ap (λ (n : ℕ). n - a.rule.forget) c.heard.ensures in
     let ahead = speaking (k.heard - a.rule.forget) k.need k.said (length k.said) in
-    let gathered : Fits c.gather.new.clocks ahead = subst (λ (n : ℕ). Fits c.gather.new.clocks (speaking n k.need k.said (length k.said))) since c.gather.ensures.fits in
-    let most = c.gather.ensures.most ∙ c.self.invariant.0 in
-    let now = c.agreed.ensures ahead gathered ∙ ap (λ (n : ℕ). agreed n ahead) most in
-    let is : c.mark_behind-mark.result ≡ behind a.rule (agreed a.rule.agree ahead) = c.mark_behind-mark.ensures ∙ ap (behind a.rule) now in
+    let is : c.look_at_all-mark.result ≡ behind a.rule (agreed a.rule.agree ahead) = c.look_at_all-mark.ensures.mark ∙ ap (λ (n : ℕ). behind a.rule (agreed n ahead)) c.self.invariant.0 in
     let need = ap (λ (k : Sayings). k.need) c.put.ensures in
     let low : k.need ≤ (a.mark / a.rule.step * a.rule.step + a.rule.step + a.rule.bound) = omega (arith, need, c.self.invariant.4) in
     let alike = λ (d t : ℕ). same_voices k (s ∷ past) a.rule.forget d t table in
-    let counted = fits_alike k c.count.new.self (s ∷ past) (ap (λ (k : Sayings). k.said) c.count.ensures) (ap (λ (k : Sayings). k.heard) c.count.ensures) table in
+    let counted = fits_alike k c.look_at_all-mark.new.table (s ∷ past) (ap (λ (k : Sayings). k.said) c.look_at_all-mark.ensures.table) (ap (λ (k : Sayings). k.heard) c.look_at_all-mark.ensures.table) table in
     let mark = mark_stays a.rule past s a.mark old.mark (looked_low a.rule c.self.invariant.1 c.self.invariant.2 a.mark k.need low ahead speak alike (omega (arith, is, c.if-mark-self.true))) in
     subst (λ (m : Marking). None ≡ raised_by m.rule past s) c.self.view_is (none_raised a.rule past s (sym old.mark ∙ mark))
 
@@ -92,16 +83,12 @@ returns-clause-fits c past fits =
     let heard = ap (λ (k : Sayings). k.heard) c.put.ensures in
     let table = fits_put a.table k s past within (ap (λ (k : Sayings). k.said) c.put.ensures) heard old.table in
     let speak = voices a.rule.forget (s ∷ past) in
-    let since : c.saturating_sub-since.result ≡ k.heard - a.rule.forget = c.saturating_sub-since.ensures ∙ ap (λ (n : ℕ). n - a.rule.forget) c.heard.ensures in
     let ahead = speaking (k.heard - a.rule.forget) k.need k.said (length k.said) in
-    let gathered : Fits c.gather.new.clocks ahead = subst (λ (n : ℕ). Fits c.gather.new.clocks (speaking n k.need k.said (length k.said))) since c.gather.ensures.fits in
-    let most = c.gather.ensures.most ∙ c.self.invariant.0 in
-    let now = c.agreed.ensures ahead gathered ∙ ap (λ (n : ℕ). agreed n ahead) most in
-    let is : c.mark_behind-mark.result ≡ behind a.rule (agreed a.rule.agree ahead) = c.mark_behind-mark.ensures ∙ ap (behind a.rule) now in
+    let is : c.look_at_all-mark.result ≡ behind a.rule (agreed a.rule.agree ahead) = c.look_at_all-mark.ensures.mark ∙ ap (λ (n : ℕ). behind a.rule (agreed n ahead)) c.self.invariant.0 in
     let need = ap (λ (k : Sayings). k.need) c.put.ensures in
     let low : k.need ≤ (a.mark / a.rule.step * a.rule.step + a.rule.step + a.rule.bound) = omega (arith, need, c.self.invariant.4) in
     let alike = λ (d t : ℕ). same_voices k (s ∷ past) a.rule.forget d t table in
-    let counted = fits_alike k c.count.new.self (s ∷ past) (ap (λ (k : Sayings). k.said) c.count.ensures) (ap (λ (k : Sayings). k.heard) c.count.ensures) table in
+    let counted = fits_alike k c.look_at_all-mark.new.table (s ∷ past) (ap (λ (k : Sayings). k.said) c.look_at_all-mark.ensures.table) (ap (λ (k : Sayings). k.heard) c.look_at_all-mark.ensures.table) table in
     let high = looked_high a.rule c.self.invariant.1 c.self.invariant.2 a.mark k.need low ahead speak alike (omega (arith, is, c.if-mark-self.false)) in
     let mark = is ∙ high ∙ mark_goes a.rule past s a.mark old.mark (omega (arith, is, high, c.if-mark-self.false)) in
     record { table = counted; mark = mark }
@@ -116,16 +103,12 @@ returns-clause-raised c past fits =
     let heard = ap (λ (k : Sayings). k.heard) c.put.ensures in
     let table = fits_put a.table k s past within (ap (λ (k : Sayings). k.said) c.put.ensures) heard old.table in
     let speak = voices a.rule.forget (s ∷ past) in
-    let since : c.saturating_sub-since.result ≡ k.heard - a.rule.forget = c.saturating_sub-since.ensures ∙ ap (λ (n : ℕ). n - a.rule.forget) c.heard.ensures in
     let ahead = speaking (k.heard - a.rule.forget) k.need k.said (length k.said) in
-    let gathered : Fits c.gather.new.clocks ahead = subst (λ (n : ℕ). Fits c.gather.new.clocks (speaking n k.need k.said (length k.said))) since c.gather.ensures.fits in
-    let most = c.gather.ensures.most ∙ c.self.invariant.0 in
-    let now = c.agreed.ensures ahead gathered ∙ ap (λ (n : ℕ). agreed n ahead) most in
-    let is : c.mark_behind-mark.result ≡ behind a.rule (agreed a.rule.agree ahead) = c.mark_behind-mark.ensures ∙ ap (behind a.rule) now in
+    let is : c.look_at_all-mark.result ≡ behind a.rule (agreed a.rule.agree ahead) = c.look_at_all-mark.ensures.mark ∙ ap (λ (n : ℕ). behind a.rule (agreed n ahead)) c.self.invariant.0 in
     let need = ap (λ (k : Sayings). k.need) c.put.ensures in
     let low : k.need ≤ (a.mark / a.rule.step * a.rule.step + a.rule.step + a.rule.bound) = omega (arith, need, c.self.invariant.4) in
     let alike = λ (d t : ℕ). same_voices k (s ∷ past) a.rule.forget d t table in
-    let counted = fits_alike k c.count.new.self (s ∷ past) (ap (λ (k : Sayings). k.said) c.count.ensures) (ap (λ (k : Sayings). k.heard) c.count.ensures) table in
+    let counted = fits_alike k c.look_at_all-mark.new.table (s ∷ past) (ap (λ (k : Sayings). k.said) c.look_at_all-mark.ensures.table) (ap (λ (k : Sayings). k.heard) c.look_at_all-mark.ensures.table) table in
     let high = looked_high a.rule c.self.invariant.1 c.self.invariant.2 a.mark k.need low ahead speak alike (omega (arith, is, c.if-mark-self.false)) in
     let mark = is ∙ high ∙ mark_goes a.rule past s a.mark old.mark (omega (arith, is, high, c.if-mark-self.false)) in
-    subst (λ (m : Marking). Some c.mark_behind-mark.result ≡ raised_by m.rule past s) c.self.view_is (one_raised a.rule past s c.mark_behind-mark.result (omega (arith, old.mark, c.if-mark-self.false)) mark)
+    subst (λ (m : Marking). Some c.look_at_all-mark.result ≡ raised_by m.rule past s) c.self.view_is (one_raised a.rule past s c.look_at_all-mark.result (omega (arith, old.mark, c.if-mark-self.false)) mark)

@@ -1,4 +1,4 @@
-use Rattle.std.proofs.Common.{◌≡◌, ◌∙◌, ◌-◌, ℕ, ap, length, subst, sym}
+use Rattle.std.proofs.Common.{◌∙◌, ◌-◌, ℕ, ap, length, subst, sym}
 use Rattle.wsm_watermarks.specs.Agreement.{tellers, voices}
 use Rattle.wsm_watermarks.specs.Table.{counted}
 use Rattle.wsm_watermarks.specs.Watermarks.{FitsMarks, Marking}
