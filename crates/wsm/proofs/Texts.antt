@@ -1,10 +1,8 @@
 -- The text of rows, one row after the other, and what was taken of it.
-use Rattle.std.proofs.Common.{◌≡◌, ◌∙◌, ◌++◌, ◌∷◌, ℕ, false, List, [], map, reverse, Option, Some, None, Result, Err, refl, sym, ap, subst, append-nil}
+use Rattle.std.proofs.Common.{◌≡◌, ◌∙◌, ◌++◌, ◌∷◌, ℕ, false, List, [], map, reverse, Option, Result, Err, refl, sym, ap, subst, append-nil}
 use Rattle.std.proofs.lemmas.List.{map-append, reverse-append}
 use Rattle.std.proofs.lemmas.List.Concat.{flat_map-append}
 use Rattle.std.specs.Io.KnownBytes.{Appends}
-use Rattle.csv.specs.Reading.{Reached, strip_bom}
-use Rattle.csv.specs.declared.parser.State.TheVariants as st
 use Rattle.wsm_semantics.specs.Lines.{Row, lines_so_far, turn_lines, end_line}
 use Rattle.wsm_semantics.specs.Text.{line_text, lines_text}
 use Rattle.wsm_program.specs.Program.{Program}
@@ -43,11 +41,6 @@ input_text-is a cells =
     let last = end_line a (rows_of a cells) in
     flat_map-append (line_text a.declared) (lines_so_far a (rows_of a cells)) (last ∷ [])
     ∙ ap (λ t. turns_text a cells ++ t) (append-nil (line_text a.declared last))
-
-pub AreFirst-none : (known : Option (List ℕ)) → AreFirst known []
-unfolding Reached
-AreFirst-none None = tt
-AreFirst-none (Some bytes) = (st.StartRecord, strip_bom bytes, (refl, refl))
 
 -- before the first row
 pub Appends-none : (a : Meant) (known : Option (List ℕ)) → Appends known known (turns_text a [])

@@ -2,7 +2,7 @@
 //!
 //! [`run_query`] reads and checks the text of a query, compiles it, has the program verified, takes
 //! the turn of each row of a reader, and gives a device the lines of each turn and a last one.
-//! [`run_program`] does so from the bytes of a program. [`run_input`] takes either, an [`Input`], and
+//! [`run_program`] does so from the bytes of a program. [`run_over`] takes either, an [`Input`], and [`run_input`] beside it
 //! [`Rows`] that stay with the caller, and says what ended them; [`accepted_of`] gives the program of one.
 //! A whole program:
 //!
@@ -57,10 +57,10 @@
 //! is handed on.
 #![tactic(auto)]
 
-pub use run::{run_input, run_program, run_query};
+pub use run::{run_input, run_over, run_program, run_query};
 pub use wsm_check::{CheckFault, CodeLimit, Part};
 pub use wsm_csv::{Device, DeviceFault, Guarded, Rows, write_out};
-pub use wsm_deal::{Ahead, Part as DealtPart, Shares, SharesRefusal, deal};
+pub use wsm_deal::{Ahead, Part as DealtPart, Shares, SharesRefusal, deal, deal_over};
 pub use wsm_engine::Totals;
 pub use wsm_inputs::{
     End, Input, InputRefusal, REJECTED_STATUS, accepted_of, compile_text, judge, judge_input,

@@ -59,7 +59,8 @@ impl Turns {
 
     /// Takes the turn of a row. The lines are then those of the turn.
     pub fn take(&mut self, row: &ByteRecord) -> Result<(), AllocError>
-        ensures { (p : Program) (before : List Row) → Fits p self.old before → OnOk result (Turned p self.new before (event_of_cells p.header.schema (fields_of row.now))) }
+        ensures { (p : Program) (before : List Row) → Fits p self.old before →
+            OnOk result (Turned p self.new before (event_of_cells p.header.schema (fields_of row.now))) }
     {
         self.lines.clear();
         match self.events.read(self.engine.schema(), row) {
@@ -83,7 +84,8 @@ impl Turns {
 
     // Adds the line of the last row's refusal, if there is one.
     fn tell(&mut self, refusal: Option<Refusal>) -> Result<(), AllocError>
-        ensures lines { (p : Program) (rows : List Row) → Fits p self.old rows → (declared : Declared) → OnOk result (self.new.lines.items ≡ self.old.lines.items ++ lines_text declared (refusal_lines (counter (length rows)) refusal)) }
+        ensures lines { (p : Program) (rows : List Row) → Fits p self.old rows → (declared : Declared) →
+            OnOk result (self.new.lines.items ≡ self.old.lines.items ++ lines_text declared (refusal_lines (counter (length rows)) refusal)) }
         ensures others { self.new ≡ record self.old { lines = self.new.lines } }
     {
         match refusal {

@@ -1,6 +1,7 @@
 //! What is written of the judgement of a program.
 
 use crate::files::{accepted, input_of, read};
+use crate::parted::tell_parts;
 use crate::sources::source_for;
 use crate::stop::Stop;
 use crate::telling::tell;
@@ -12,9 +13,10 @@ use wsm_words::{ExplainJob, VerifyJob};
 
 /// Judges a program, or a query's, and a source that is to fit it.
 pub fn verify<R: Files + AllocGlobal + Print>(rt: &R, job: &VerifyJob) -> Result<bool, Stop> {
-    match &job.from {
-        None => Ok(judged(rt, job.query, &job.program, false)?),
-        Some(source) => judged_with(rt, job, source),
+    match (&job.keys, &job.from) {
+        (Some(keys), _) => tell_parts(rt, job, keys),
+        (None, None) => Ok(judged(rt, job.query, &job.program, false)?),
+        (None, Some(source)) => judged_with(rt, job, source),
     }
 }
 

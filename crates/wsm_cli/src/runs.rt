@@ -2,9 +2,10 @@
 
 use crate::counting::Counting;
 use crate::files::{accepted, end_of, input_of, read};
+use crate::keyed::run_named;
 use crate::logs::run_from;
 use crate::metrics::{Ran, write_run};
-use crate::stop::Stop;
+use crate::stop::{Stop, WordsFault};
 use std::fs::File;
 use std::io::{self, Eprint, Read};
 use std::rt::Files;
@@ -14,6 +15,21 @@ use wsm_words::RunJob;
 
 /// Runs a query or a program over rows, or over a log by a source, and writes what was counted where that is asked for.
 pub fn run<R: Files<File = File> + AllocGlobal + Input + Print + Eprint + Clock>(
+    rt: &R,
+    job: &RunJob,
+    is_looked_at: bool,
+) -> Result<bool, Stop> {
+    match &job.keys.file {
+        Some(names) => run_named(rt, job, names),
+        None if job.keys.takes_new || job.keys.most.is_some() => {
+            Err(Stop::Words(WordsFault::NoNames))
+        }
+        None => run_declared(rt, job, is_looked_at),
+    }
+}
+
+// Runs a query or a program that declares its keys.
+fn run_declared<R: Files<File = File> + AllocGlobal + Input + Print + Eprint + Clock>(
     rt: &R,
     job: &RunJob,
     is_looked_at: bool,

@@ -2,9 +2,10 @@
 
 use std::alloc::{AllocError, AllocFailed};
 use std::fmt;
-use wsm::{End, status_of};
+use wsm::{End, InputRefusal, Position, status_of};
 use wsm_fed::FedFault;
 use wsm_kept::KeepEnd;
+use wsm_keyed_run::KeyedStop;
 use wsm_live_loop::LiveStop;
 use wsm_replace::ReplaceFault;
 use wsm_source::SourceRefusal;
@@ -14,6 +15,9 @@ pub const REFUSED_WORDS: u8 = 2;
 
 // A source was refused, as a query's text may be.
 const REFUSED_SOURCE: u8 = 3;
+
+// A query that isn't run over any number of keys.
+const REFUSED_QUERY: u8 = 3;
 
 // Another one holds the file of the rows, or the folder of a live run: again after a pause.
 const HELD_ROWS: u8 = 8;
@@ -30,6 +34,8 @@ pub enum Stop {
     Words(WordsFault),
     /// Its rows aren't cut.
     Rows(RowsFault),
+    /// A query isn't run over any number of keys; nothing was written.
+    Keyed(KeyedStop),
     /// Its live run ends.
     Live(LiveStop),
     /// As a job without a source ends.
@@ -45,6 +51,7 @@ impl Stop {
             Stop::Words(_) => REFUSED_WORDS,
             Stop::Rows(RowsFault::Held) => HELD_ROWS,
             Stop::Rows(_) => UNFIT_ROWS,
+            Stop::Keyed(_) => REFUSED_QUERY,
             Stop::Live(stop) => status_of_live(stop),
             Stop::End(end) => status_of(*end),
         }
@@ -57,6 +64,7 @@ impl fmt::Display for Stop {
             Stop::Source(refusal) => write!(f, "{refusal}"),
             Stop::Words(fault) => write!(f, "{fault}"),
             Stop::Rows(fault) => write!(f, "{fault}"),
+            Stop::Keyed(stop) => write!(f, "{stop}"),
             Stop::Live(stop) => write!(f, "{stop}"),
             Stop::End(end) => write!(f, "{end}"),
         }
@@ -102,6 +110,14 @@ pub enum WordsFault {
     NoLive,
     /// Standard input is renamed by nobody and loses no lines.
     NoFile,
+    /// New names and their number are of names of a file.
+    NoNames,
+    /// A program has its keys, and a log is read by them.
+    NotNamed,
+    /// The number of names is told, and none is new.
+    MostOfNone,
+    /// A source is judged of a query with its keys.
+    KeysOfSource,
 }
 
 impl fmt::Display for WordsFault {
@@ -126,6 +142,10 @@ impl fmt::Display for WordsFault {
             WordsFault::NoFile => {
                 f.write_str("--lost and --patience are for a LOG that is a file")
             }
+            WordsFault::NoNames => f.write_str("--new-keys and --most-keys are for --keys"),
+            WordsFault::NotNamed => f.write_str("--keys takes the text of a query, and rows"),
+            WordsFault::KeysOfSource => f.write_str("verify takes --keys or --from"),
+            WordsFault::MostOfNone => f.write_str("--most-keys is for --new-keys"),
         }
     }
 }
@@ -171,6 +191,26 @@ impl fmt::Display for RowsFault {
 impl From<End> for Stop {
     fn from(end: End) -> Stop {
         Stop::End(end)
+    }
+}
+
+impl From<KeyedStop> for Stop {
+    fn from(stop: KeyedStop) -> Stop {
+        match stop {
+            KeyedStop::End(end) => Stop::End(without_places(end)),
+            stop => Stop::Keyed(stop),
+        }
+    }
+}
+
+// The end of a text that stood behind the line of a clause of places, as of the text itself.
+fn without_places(end: End) -> End {
+    match end {
+        End::Refused(InputRefusal::Text(fault, Position { line, column })) => {
+            let line = line.saturating_sub(1);
+            End::Refused(InputRefusal::Text(fault, Position { line, column }))
+        }
+        end => end,
     }
 }
 

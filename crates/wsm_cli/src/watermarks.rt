@@ -35,6 +35,9 @@ pub fn follow<R: Files<File = File> + AllocGlobal + Input + Print + Eprint>(
         },
     };
     tell(rt, totals);
+    if !job.last {
+        tell_open(rt, totals);
+    }
     write_rows(rt, job.metrics.as_ref(), totals)?;
     Ok(true)
 }
@@ -68,6 +71,19 @@ fn tell<R: Eprint>(rt: &R, totals: Totals) {
         silent: 0,
         heard: totals.heard,
     });
+}
+
+// Tells how far records go beyond the last watermark, where they do.
+fn tell_open<R: Eprint>(rt: &R, totals: Totals) {
+    let mark = totals.mark;
+    if let Some(latest) = totals.latest {
+        if mark <= latest {
+            let time = latest.saturating_sub(mark).saturating_add(1);
+            let _ = eprintln!(rt;
+                "wsm: windows that are not complete: records go {time} beyond the last watermark, {mark}; --last completes all"
+            );
+        }
+    }
 }
 
 // By what rows are taken.

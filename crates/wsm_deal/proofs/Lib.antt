@@ -2,7 +2,7 @@ pub mod RowTexts
 mod PartTexts
 mod Goals
 mod Outcomes
-mod FirstRows
+pub mod FirstRows
 mod Shared
 mod Lists
 mod EachPart

@@ -81,9 +81,11 @@ pub fn deal<R: Read + Drop, D: Device>(
     requires fresh { (known : Option (List ℕ)) × Follows (bytes_of R.remaining) known [] rows.old }
     requires new { AreNew D.taken parts.old }
     requires works { NoneFailed D.has_failed parts.old }
-    ensures dealt { (known : Option (List ℕ)) (olds : Befores) → Follows (bytes_of R.remaining) known [] rows.old → EachHas D.taken olds (hands_of shares.now []) parts.old →
+    ensures dealt { (known : Option (List ℕ)) (olds : Befores) → Follows (bytes_of R.remaining) known [] rows.old →
+        EachHas D.taken olds (hands_of shares.now []) parts.old →
         IfOk result (λ _. (cells : List (List (List ℕ))) × Dealt D.taken known shares.now olds cells parts.new) }
-    ensures ends_early { (known : Option (List ℕ)) (olds : Befores) → Follows (bytes_of R.remaining) known [] rows.old → EachHas D.taken olds (hands_of shares.now []) parts.old →
+    ensures ends_early { (known : Option (List ℕ)) (olds : Befores) → Follows (bytes_of R.remaining) known [] rows.old →
+        EachHas D.taken olds (hands_of shares.now []) parts.old →
         IfErr result (λ _. (cells : List (List (List ℕ))) × EndsEarly D.taken known shares.now olds cells parts.new) }
     ensures read_failed { result ≡ Err DealEnd.ReadFailed → read_end (error_of rows.new) ≡ ReadEnd.Failed }
     ensures flushed { OnOk result (EachFlushed D.is_flushed parts.new) }
@@ -93,6 +95,32 @@ pub fn deal<R: Read + Drop, D: Device>(
     deal_rows(shares, rows, parts)?;
     finish(parts)?;
     Ok(())
+}
+
+/// Deals the rows of a reader's bytes, as [`deal`] does, and makes the rows itself.
+///
+/// # Errors
+///
+/// As [`deal`].
+pub fn deal_over<R: Read + Drop, D: Device>(
+    alloc: Global,
+    shares: &Shares,
+    reader: R,
+    parts: &mut [Part<D>],
+) -> Result<(), DealEnd>
+    requires new { AreNew D.taken parts.old }
+    requires works { NoneFailed D.has_failed parts.old }
+    ensures dealt { (olds : Befores) → EachHas D.taken olds (hands_of shares.now []) parts.old →
+        IfOk result (λ _. (cells : List (List (List ℕ))) × Dealt D.taken (R.remaining reader) shares.now olds cells parts.new) }
+    ensures ends_early { (olds : Befores) → EachHas D.taken olds (hands_of shares.now []) parts.old →
+        IfErr result (λ _. (cells : List (List (List ℕ))) × EndsEarly D.taken (R.remaining reader) shares.now olds cells parts.new) }
+    ensures flushed { OnOk result (EachFlushed D.is_flushed parts.new) }
+    ensures write_failed { result ≡ Err DealEnd.WriteFailed → SomeFailed D.has_failed parts.new }
+    ensures device { SomeFailed D.has_failed parts.new → result ≡ Err DealEnd.WriteFailed }
+{
+    let ahead = Ahead::new(alloc, reader)?;
+    let mut rows = Rows::new(alloc, ahead);
+    deal(shares, &mut rows, parts)
 }
 
 /// Puts a part to which no row was dealt behind others of that kind.
@@ -123,9 +151,11 @@ fn deal_rows<R: Read + Drop, D: Device>(
     parts: &mut [Part<D>],
 ) -> Result<(), DealEnd>
     requires works { NoneFailed D.has_failed parts.old }
-    ensures dealt { (known : Option (List ℕ)) (olds : Befores) → Follows (bytes_of R.remaining) known [] rows.old → EachHas D.taken olds (hands_of shares.now []) parts.old →
+    ensures dealt { (known : Option (List ℕ)) (olds : Befores) → Follows (bytes_of R.remaining) known [] rows.old →
+        EachHas D.taken olds (hands_of shares.now []) parts.old →
         IfOk result (λ _. (cells : List (List (List ℕ))) × AreAll known cells × EachHas D.taken olds (hands_of shares.now cells) parts.new) }
-    ensures ends_early { (known : Option (List ℕ)) (olds : Befores) → Follows (bytes_of R.remaining) known [] rows.old → EachHas D.taken olds (hands_of shares.now []) parts.old →
+    ensures ends_early { (known : Option (List ℕ)) (olds : Befores) → Follows (bytes_of R.remaining) known [] rows.old →
+        EachHas D.taken olds (hands_of shares.now []) parts.old →
         IfErr result (λ _. (cells : List (List (List ℕ))) × EndsEarly D.taken known shares.now olds cells parts.new) }
     ensures read_failed { result ≡ Err DealEnd.ReadFailed → read_end (error_of rows.new) ≡ ReadEnd.Failed }
     ensures write_failed { result ≡ Err DealEnd.WriteFailed → SomeFailed D.has_failed parts.new }
@@ -165,8 +195,10 @@ fn deal_row<D: Device>(
     text: &mut Vec<u8>,
 ) -> Result<(), DealEnd>
     requires works { NoneFailed D.has_failed parts.old }
-    ensures dealt { (olds : Befores) (rows : List (List (List ℕ))) → EachHas D.taken olds (hands_of shares.now rows) parts.old → OnOk result (EachHas D.taken olds (hands_of shares.now (with_row rows (fields_of row.now))) parts.new) }
-    ensures began { (olds : Befores) (rows : List (List (List ℕ))) → EachHas D.taken olds (hands_of shares.now rows) parts.old → OnErr result (EachBegan D.taken olds (hands_of shares.now (with_row rows (fields_of row.now))) parts.new) }
+    ensures dealt { (olds : Befores) (rows : List (List (List ℕ))) → EachHas D.taken olds (hands_of shares.now rows) parts.old →
+        OnOk result (EachHas D.taken olds (hands_of shares.now (with_row rows (fields_of row.now))) parts.new) }
+    ensures began { (olds : Befores) (rows : List (List (List ℕ))) → EachHas D.taken olds (hands_of shares.now rows) parts.old →
+        OnErr result (EachBegan D.taken olds (hands_of shares.now (with_row rows (fields_of row.now))) parts.new) }
     ensures reads_none { result ≢ Err DealEnd.ReadFailed }
     ensures write_failed { result ≡ Err DealEnd.WriteFailed → SomeFailed D.has_failed parts.new }
     ensures works { (result ≡ Err DealEnd.WriteFailed) ⊎ NoneFailed D.has_failed parts.new }
@@ -185,8 +217,10 @@ fn deal_to_one<D: Device>(
     parts: &mut [Part<D>],
 ) -> Result<(), DealEnd>
     requires works { NoneFailed D.has_failed parts.old }
-    ensures dealt { (olds : Befores) (hands : Hands) → EachHas D.taken olds hands parts.old → OnOk result (EachHas D.taken olds (one_more_for part hands (fields_of row.now)) parts.new) }
-    ensures began { (olds : Befores) (hands : Hands) → EachHas D.taken olds hands parts.old → OnErr result (EachBegan D.taken olds (one_more_for part hands (fields_of row.now)) parts.new) }
+    ensures dealt { (olds : Befores) (hands : Hands) → EachHas D.taken olds hands parts.old →
+        OnOk result (EachHas D.taken olds (one_more_for part hands (fields_of row.now)) parts.new) }
+    ensures began { (olds : Befores) (hands : Hands) → EachHas D.taken olds hands parts.old →
+        OnErr result (EachBegan D.taken olds (one_more_for part hands (fields_of row.now)) parts.new) }
     ensures reads_none { result ≢ Err DealEnd.ReadFailed }
     ensures write_failed { result ≡ Err DealEnd.WriteFailed → SomeFailed D.has_failed parts.new }
     ensures works { (result ≡ Err DealEnd.WriteFailed) ⊎ NoneFailed D.has_failed parts.new }
@@ -205,8 +239,10 @@ fn deal_to_all<D: Device>(
     text: &mut Vec<u8>,
 ) -> Result<(), DealEnd>
     requires works { NoneFailed D.has_failed parts.old }
-    ensures dealt { (olds : Befores) (hands : Hands) → EachHas D.taken olds hands parts.old → OnOk result (EachHas D.taken olds (one_more_each hands (fields_of row.now)) parts.new) }
-    ensures began { (olds : Befores) (hands : Hands) → EachHas D.taken olds hands parts.old → OnErr result (EachBegan D.taken olds (one_more_each hands (fields_of row.now)) parts.new) }
+    ensures dealt { (olds : Befores) (hands : Hands) → EachHas D.taken olds hands parts.old →
+        OnOk result (EachHas D.taken olds (one_more_each hands (fields_of row.now)) parts.new) }
+    ensures began { (olds : Befores) (hands : Hands) → EachHas D.taken olds hands parts.old →
+        OnErr result (EachBegan D.taken olds (one_more_each hands (fields_of row.now)) parts.new) }
     ensures reads_none { result ≢ Err DealEnd.ReadFailed }
     ensures write_failed { result ≡ Err DealEnd.WriteFailed → SomeFailed D.has_failed parts.new }
     ensures works { (result ≡ Err DealEnd.WriteFailed) ⊎ NoneFailed D.has_failed parts.new }

@@ -16,13 +16,15 @@ ghost use Rattle.wsm_deal.specs.Runs.{RunsByKey, VerdictsByKey};
 /// What bytes are read as, dealt to a part and written, is read as the rows of the part: those of the
 /// whole without what goes elsewhere, in their order.
 pub fn read_back()
-    ensures { (bytes : List ℕ) (rows : List (List (List ℕ))) → AreAll (Some bytes) rows → (s : Sharing) (part : ℕ) → AreAll (Some (part_text (dealt_to s part rows))) (dealt_to s part rows) }
+    ensures { (bytes : List ℕ) (rows : List (List (List ℕ))) → AreAll (Some bytes) rows → (s : Sharing) (part : ℕ) →
+        AreAll (Some (part_text (dealt_to s part rows))) (dealt_to s part rows) }
 {}
 
 /// The events of a part's rows, where all keys are declared in their order, are those of the whole of the
 /// keys of the part: the part of a history that the law by key speaks of.
 pub fn events_by_key()
-    ensures { (s : Sharing) (declared : Declared) → declared.keys ≡ s.names → (part : ℕ) (rows : List (List (List ℕ))) → events (map (event_of_cells declared) (dealt_to s part rows)) ≡ of_keys (keys_of s part) (events (map (event_of_cells declared) rows)) }
+    ensures { (s : Sharing) (declared : Declared) → declared.keys ≡ s.names → (part : ℕ) (rows : List (List (List ℕ))) →
+        events (map (event_of_cells declared) (dealt_to s part rows)) ≡ of_keys (keys_of s part) (events (map (event_of_cells declared) rows)) }
 {}
 
 /// What the runs of the parts write, key by key, is what one run over all rows writes, as long as that one

@@ -6,7 +6,7 @@
 #![tactic(auto)]
 
 pub use ahead::Ahead;
-pub use dealing::{DealEnd, add_part, deal};
+pub use dealing::{DealEnd, add_part, deal, deal_over};
 pub use part::Part;
 pub use row_text::add_row;
 pub use shares::{Shares, SharesRefusal};

@@ -49,8 +49,10 @@ impl<D: Device> Part<D> {
     #[inline(always)]
     pub(crate) fn add(&mut self, row: &ByteRecord) -> Result<(), DealEnd>
         requires works { D.has_failed (out_of self.old) ≡ false }
-        ensures adds { (old : Option (List ℕ)) (rows : List (List (List ℕ))) → Has D.taken old rows self.old → OnOk result (Has D.taken old (rows ++ fields_of row.now ∷ []) self.new) }
-        ensures part { (old : Option (List ℕ)) (rows : List (List (List ℕ))) → Has D.taken old rows self.old → OnErr result (TakesPart old (D.taken (out_of self.new)) (part_text (rows ++ fields_of row.now ∷ []))) }
+        ensures adds { (old : Option (List ℕ)) (rows : List (List (List ℕ))) → Has D.taken old rows self.old →
+            OnOk result (Has D.taken old (rows ++ fields_of row.now ∷ []) self.new) }
+        ensures part { (old : Option (List ℕ)) (rows : List (List (List ℕ))) → Has D.taken old rows self.old →
+            OnErr result (TakesPart old (D.taken (out_of self.new)) (part_text (rows ++ fields_of row.now ∷ []))) }
         ensures reads_none { result ≢ Err DealEnd.ReadFailed }
         ensures write_failed { result ≡ Err DealEnd.WriteFailed → D.has_failed (out_of self.new) ≡ true }
         ensures works { (result ≡ Err DealEnd.WriteFailed) ⊎ (D.has_failed (out_of self.new) ≡ false) }
@@ -72,8 +74,10 @@ impl<D: Device> Part<D> {
         requires works { D.has_failed (out_of self.old) ≡ false }
         requires text { text.now ≡ row_text default_writer (fields_of row.now) }
         requires block { length text.now ≤ BLOCK → take (length text.now) block.now ≡ text.now }
-        ensures adds { (old : Option (List ℕ)) (rows : List (List (List ℕ))) → Has D.taken old rows self.old → OnOk result (Has D.taken old (rows ++ fields_of row.now ∷ []) self.new) }
-        ensures part { (old : Option (List ℕ)) (rows : List (List (List ℕ))) → Has D.taken old rows self.old → OnErr result (TakesPart old (D.taken (out_of self.new)) (part_text (rows ++ fields_of row.now ∷ []))) }
+        ensures adds { (old : Option (List ℕ)) (rows : List (List (List ℕ))) → Has D.taken old rows self.old →
+            OnOk result (Has D.taken old (rows ++ fields_of row.now ∷ []) self.new) }
+        ensures part { (old : Option (List ℕ)) (rows : List (List (List ℕ))) → Has D.taken old rows self.old →
+            OnErr result (TakesPart old (D.taken (out_of self.new)) (part_text (rows ++ fields_of row.now ∷ []))) }
         ensures reads_none { result ≢ Err DealEnd.ReadFailed }
         ensures write_failed { result ≡ Err DealEnd.WriteFailed → D.has_failed (out_of self.new) ≡ true }
         ensures works { (result ≡ Err DealEnd.WriteFailed) ⊎ (D.has_failed (out_of self.new) ≡ false) }
@@ -88,7 +92,8 @@ impl<D: Device> Part<D> {
     // Deals a row to the part, whose text is kept.
     #[inline(always)]
     fn keep(&mut self, row: &ByteRecord) -> Result<(), AllocError>
-        ensures adds { (old : Option (List ℕ)) (rows : List (List (List ℕ))) → Has D.taken old rows self.old → OnOk result (Has D.taken old (rows ++ fields_of row.now ∷ []) self.new) }
+        ensures adds { (old : Option (List ℕ)) (rows : List (List (List ℕ))) → Has D.taken old rows self.old →
+            OnOk result (Has D.taken old (rows ++ fields_of row.now ∷ []) self.new) }
         ensures out { self.new.out ≡ self.old.out }
     {
         self.open(row)?;
@@ -104,7 +109,8 @@ impl<D: Device> Part<D> {
     ) -> Result<(), AllocError>
         requires text { text.now ≡ row_text default_writer (fields_of row.now) }
         requires block { length text.now ≤ BLOCK → take (length text.now) block.now ≡ text.now }
-        ensures adds { (old : Option (List ℕ)) (rows : List (List (List ℕ))) → Has D.taken old rows self.old → OnOk result (Has D.taken old (rows ++ fields_of row.now ∷ []) self.new) }
+        ensures adds { (old : Option (List ℕ)) (rows : List (List (List ℕ))) → Has D.taken old rows self.old →
+            OnOk result (Has D.taken old (rows ++ fields_of row.now ∷ []) self.new) }
         ensures out { self.new.out ≡ self.old.out }
     {
         self.open(row)?;
@@ -131,7 +137,8 @@ impl<D: Device> Part<D> {
         ensures kept { (old : Option (List ℕ)) (rows : List (List (List ℕ))) → Has D.taken old rows self.old → OnOk result (Has D.taken old rows self.new) }
         ensures empty { OnOk result (self.new.text.items ≡ []) }
         ensures works { OnOk result (D.has_failed (out_of self.new) ≡ false) }
-        ensures part { (old : Option (List ℕ)) (rows : List (List (List ℕ))) → Has D.taken old rows self.old → OnErr result (TakesPart old (D.taken (out_of self.new)) (part_text rows)) }
+        ensures part { (old : Option (List ℕ)) (rows : List (List (List ℕ))) → Has D.taken old rows self.old →
+            OnErr result (TakesPart old (D.taken (out_of self.new)) (part_text rows)) }
         ensures fails { OnErr result (D.has_failed (out_of self.new) ≡ true) }
     {
         if self.text.is_empty() {
@@ -146,10 +153,12 @@ impl<D: Device> Part<D> {
     /// only where the device has failed.
     pub(crate) fn finish(&mut self) -> Result<(), DeviceFault>
         requires works { D.has_failed (out_of self.old) ≡ false }
-        ensures took { (old : Option (List ℕ)) (rows : List (List (List ℕ))) → Has D.taken old rows self.old → OnOk result (Appends old (D.taken (out_of self.new)) (part_text rows)) }
+        ensures took { (old : Option (List ℕ)) (rows : List (List (List ℕ))) → Has D.taken old rows self.old →
+            OnOk result (Appends old (D.taken (out_of self.new)) (part_text rows)) }
         ensures flushed { OnOk result (D.is_flushed (out_of self.new) ≡ true) }
         ensures works { OnOk result (D.has_failed (out_of self.new) ≡ false) }
-        ensures part { (old : Option (List ℕ)) (rows : List (List (List ℕ))) → Has D.taken old rows self.old → OnErr result (TakesPart old (D.taken (out_of self.new)) (part_text rows)) }
+        ensures part { (old : Option (List ℕ)) (rows : List (List (List ℕ))) → Has D.taken old rows self.old →
+            OnErr result (TakesPart old (D.taken (out_of self.new)) (part_text rows)) }
         ensures fails { OnErr result (D.has_failed (out_of self.new) ≡ true) }
     {
         self.hand_on()?;

@@ -14,42 +14,60 @@ fn job(alloc: Global, words: &[&str]) -> Result<String, Fail> {
     }
 }
 
-const JOBS: [(&[&str], &str); 21] = [
+const JOBS: [(&[&str], &str); 23] = [
     (
         &["wsm", "run", "q"],
-        "Run(RunJob { program: false, from: None, metrics: None, query: \"q\", rows: None })",
+        "Run(RunJob { program: false, from: None, metrics: None, keys: Named { file: None, takes_new: false, most: None }, query: \"q\", rows: None })",
     ),
     (
         &["wsm", "run", "q", "r"],
-        "Run(RunJob { program: false, from: None, metrics: None, query: \"q\", rows: Some(\"r\") })",
+        "Run(RunJob { program: false, from: None, metrics: None, keys: Named { file: None, takes_new: false, most: None }, query: \"q\", rows: Some(\"r\") })",
     ),
     (
         &["wsm", "run", "--program", "p"],
-        "Run(RunJob { program: true, from: None, metrics: None, query: \"p\", rows: None })",
+        "Run(RunJob { program: true, from: None, metrics: None, keys: Named { file: None, takes_new: false, most: None }, query: \"p\", rows: None })",
     ),
     (
         &["wsm", "run", "p", "r", "--program"],
-        "Run(RunJob { program: true, from: None, metrics: None, query: \"p\", rows: Some(\"r\") })",
+        "Run(RunJob { program: true, from: None, metrics: None, keys: Named { file: None, takes_new: false, most: None }, query: \"p\", rows: Some(\"r\") })",
     ),
     (
         &["wsm", "run", "--", "--program"],
-        "Run(RunJob { program: false, from: None, metrics: None, query: \"--program\", rows: None })",
+        "Run(RunJob { program: false, from: None, metrics: None, keys: Named { file: None, takes_new: false, most: None }, query: \"--program\", rows: None })",
     ),
     (
         &["wsm", "run", "q", "-"],
-        "Run(RunJob { program: false, from: None, metrics: None, query: \"q\", rows: None })",
+        "Run(RunJob { program: false, from: None, metrics: None, keys: Named { file: None, takes_new: false, most: None }, query: \"q\", rows: None })",
     ),
     (
         &["wsm", "run", "-", "./-"],
-        "Run(RunJob { program: false, from: None, metrics: None, query: \"-\", rows: Some(\"./-\") })",
+        "Run(RunJob { program: false, from: None, metrics: None, keys: Named { file: None, takes_new: false, most: None }, query: \"-\", rows: Some(\"./-\") })",
     ),
     (
-        &["wsm", "run", "--from", "s", "--metrics", "m", "q", "l"],
-        "Run(RunJob { program: false, from: Some(\"s\"), metrics: Some(\"m\"), query: \"q\", rows: Some(\"l\") })",
+        &["wsm", "run", "--from", "s", "q", "l"],
+        "Run(RunJob { program: false, from: Some(\"s\"), metrics: None, keys: Named { file: None, takes_new: false, most: None }, query: \"q\", rows: Some(\"l\") })",
+    ),
+    (
+        &[
+            "wsm",
+            "run",
+            "--keys",
+            "n",
+            "--new-keys",
+            "--most-keys=9",
+            "--metrics",
+            "m",
+            "q",
+        ],
+        "Run(RunJob { program: false, from: None, metrics: Some(\"m\"), keys: Named { file: Some(\"n\"), takes_new: true, most: Some(\"9\") }, query: \"q\", rows: None })",
+    ),
+    (
+        &["wsm", "verify", "--keys", "9", "q"],
+        "Verify(VerifyJob { query: false, from: None, keys: Some(\"9\"), program: \"q\" })",
     ),
     (
         &["wsm", "run", "p", "--from=-", "--program"],
-        "Run(RunJob { program: true, from: Some(\"-\"), metrics: None, query: \"p\", rows: None })",
+        "Run(RunJob { program: true, from: Some(\"-\"), metrics: None, keys: Named { file: None, takes_new: false, most: None }, query: \"p\", rows: None })",
     ),
     (
         &["wsm", "compile", "q", "o"],
@@ -61,15 +79,15 @@ const JOBS: [(&[&str], &str); 21] = [
     ),
     (
         &["wsm", "verify", "p"],
-        "Verify(VerifyJob { query: false, from: None, program: \"p\" })",
+        "Verify(VerifyJob { query: false, from: None, keys: None, program: \"p\" })",
     ),
     (
         &["wsm", "verify", "--query", "q"],
-        "Verify(VerifyJob { query: true, from: None, program: \"q\" })",
+        "Verify(VerifyJob { query: true, from: None, keys: None, program: \"q\" })",
     ),
     (
         &["wsm", "verify", "--query", "--from", "s", "q"],
-        "Verify(VerifyJob { query: true, from: Some(\"s\"), program: \"q\" })",
+        "Verify(VerifyJob { query: true, from: Some(\"s\"), keys: None, program: \"q\" })",
     ),
     (
         &["wsm", "explain", "p"],

@@ -5,7 +5,8 @@ use Rattle.wsm_semantics.specs.declared.ending.Totals.{Totals}
 use Rattle.wsm_machine.specs.Meaning.{query_of}
 use Rattle.wsm_inputs.specs.declared.end.End.{End}
 use Rattle.wsm.specs.Written.{Cells, Completes, EndsEarly}
-use Rattle.wsm.proofs.Texts.{AreFirst-none, Appends-none}
+use Rattle.wsm_deal.proofs.FirstRows.{none_first}
+use Rattle.wsm.proofs.Texts.{Appends-none}
 use Rattle.wsm.proofs.run.run_verified.Goals as goal
 
 -- what is told of some cells is told of cells
@@ -20,7 +21,7 @@ cells_of_totals P (Err end) cells h = h
 pub returns-in_err-turns-clause-ends_early : goal.returns-in_err-turns-clause-ends_early
 returns-in_err-turns-clause-ends_early g c =
     let e = err_from_is_err_and c.from_residual.result c.from_residual.ensures.1 in
-    rw (e.1, e.2) (λ known start. ([], record { first = AreFirst-none known; text = Appends-none (query_of c.args.verified) (g.D.Device.taken c.args.out.now) }))
+    rw (e.1, e.2) (λ known start. ([], record { first = none_first known; text = Appends-none (query_of c.args.verified) (g.D.Device.taken c.args.out.now) }))
 
 pub returns-in_err-take_rows-clause-ends_early : goal.returns-in_err-take_rows-clause-ends_early
 returns-in_err-take_rows-clause-ends_early g c =

@@ -1,4 +1,4 @@
-use Rattle.wsm.proofs.run.run_query.Goals as goal
+use Rattle.wsm.proofs.run.run_over.Goals as goal
 
 pub returns-clause-ends : goal.returns-clause-ends
 returns-clause-ends g c = c.run_input.ensures.ends (g.R.Read.remaining c.args.reader) c.new-rows.ensures
