@@ -199,6 +199,8 @@ class Feeding:
 class Filtering(Feeding):
     """The rows that `wsm watermarks` writes of rows, by docs/LOGS.md. The identifier of a record, if it has one, is its fourth cell."""
     odd: int = 0  # lines that are no rows
+    admitted: int = 0  # records that the query takes as they go on
+    latest: int = -1  # the greatest time of these
 
     def __post_init__(self):
         super().__post_init__()
@@ -244,6 +246,9 @@ class Filtering(Feeding):
 
     def go(self, time, line, rows):
         """A record goes on as its line, or where it waited as the row that says it."""
+        is_near = time <= min(self.watermark + self.rules.skew, LATEST)
+        if is_near and not self.rules.is_late(time, self.watermark) and self.admitted < self.rules.records:
+            self.admitted, self.latest = self.admitted + 1, max(self.latest, time)
         super().go(time, line, rows[0] if line == self.count else rows[1])
 
     def end(self):
@@ -254,10 +259,14 @@ class Filtering(Feeding):
         rows = [row for row in self.rows if row != ""]
         return "".join(f"{row}\n" for row in rows + [f"w,{LATEST}"] * (has_last and self.watermark < LATEST))
 
-    def said(self):
+    def said(self, has_last):
         """What is told on standard error."""
         counts = (("lines that are no rows", self.odd), ("records that are late", len(self.late)))
-        return [f"wsm: {what}: {count}" for what, count in counts if count] + self.told
+        told = [f"wsm: {what}: {count}" for what, count in counts if count] + self.told
+        if not has_last and self.latest >= self.watermark:
+            beyond = f"records go {self.latest - self.watermark + 1} beyond the last watermark, {self.watermark}"
+            told.append(f"wsm: windows that are not complete: {beyond}; --last completes all")
+        return told
 
 
 def fed_of(rules, lines):

@@ -8,6 +8,7 @@ usage: reference.py QUERY [ROWS]
 An independent computation to compare the program with: nothing here is shared with its crates. Each
 turn is computed anew from all rows so far, as the definitions say it, so this is for short inputs
 whose rows have no quotes. A query that is refused or rejected is told as `wsm run` tells it.
+A Stream may have any number of names in the place of the query's keys, and take new ones from its records.
 
 --explain writes the instructions of the query's program and what the verifier says of it, as
 `wsm explain` does. --bytes writes the program's bytes: of version 2 as `wsm compile` does, of version 1
@@ -54,6 +55,16 @@ def event_of(query, cells):
     return "r", query.keys.index(cells[1]) if cells[1] in query.keys else None, time, values
 
 
+def is_key_name(name):
+    """Whether a text may be a key in a file of names: 1 to 255 bytes without a line feed."""
+    return 1 <= len(name) <= 255 and "\n" not in name
+
+
+def cell_of(name):
+    """A name as a row has it: in quotes where it has a comma, a quote or a carriage return."""
+    return '"' + name.replace('"', '""') + '"' if re.search('[,"\r]', name) else name
+
+
 # ---- windows
 
 def grid(query, time):
@@ -92,10 +103,13 @@ class Firing:
 
 
 class Stream:
-    """A run. A place is a window's end and start and the number of a key, so that places come in the order of rows."""
+    """A run. A place is a window's end and start and the number of a key, so that places come in the order of rows.
 
-    def __init__(self, query):
-        self.query = query
+    Where `most` is a number, a name that comes in a record is a key from then on, as long as there are fewer.
+    """
+
+    def __init__(self, query, most=None):
+        self.query, self.most = query, most
         self.marks = [query.start] * max(1, len(query.sources))
         self.records, self.firings, self.lines = [], [], []
         self.relation = Counter()
@@ -125,7 +139,7 @@ class Stream:
 
     def write_pane(self, *tags, place, row):
         end, start, key = place
-        self.write(*tags, self.query.keys[key], start, end, *self.cells(row))
+        self.write(*tags, cell_of(self.query.keys[key]), start, end, *self.cells(row))
 
     # ---- panes, and what fires
 
@@ -142,7 +156,7 @@ class Stream:
     def panes(self, mark):
         """The contents of the windows that are live at a mark, by place."""
         found = {}
-        for key in range(len(self.query.keys)):
+        for key in sorted({record.key for record in self.records}):
             mine = [record for record in self.records if record.key == key]
             times = [record.time for record in mine]
             for record in mine:
@@ -244,9 +258,16 @@ class Stream:
             is_late = time + query.lateness < self.mark()
         return "Late" if is_late else "RecordLimit" if self.admitted == query.records else None
 
+    def learns(self, name):
+        """Whether the name of a record is a key from now on."""
+        return self.most is not None and len(self.query.keys) < self.most and is_key_name(name)
+
     def take(self, cells):
         self.turn += 1
         event = event_of(self.query, cells)
+        if event[0] == "r" and event[1] is None and self.learns(cells[1]):
+            self.query.keys.append(cells[1])
+            event = event_of(self.query, cells)
         why = event if isinstance(event, str) else self.verdict(event)
         if why == "Late":
             self.late += 1

@@ -6,7 +6,8 @@ ghost use Rattle.wsm_fed.specs.Written.{ArePieces, IsFirst, Piece, chunks_of, wr
 
 /// What a source writes is taken: each piece of a log, with the position behind it, and no fault is found.
 pub fn read_back()
-    ensures { (heard : ℕ) (position : List ℕ) (pieces : List Piece) → 0 < heard → ArePieces pieces → came_from (stand heard position [] 0) (written pieces) ≡ record { chunks = chunks_of pieces; fault = None } }
+    ensures { (heard : ℕ) (position : List ℕ) (pieces : List Piece) → 0 < heard → ArePieces pieces →
+        came_from (stand heard position [] 0) (written pieces) ≡ record { chunks = chunks_of pieces; fault = None } }
 {}
 
 /// Wherever a source is cut off, what was taken until then is a beginning of what is taken of all.

@@ -209,8 +209,10 @@ impl Follower {
     /// A call of the folder failed, or memory was refused. The position is as it was.
     pub fn turn<F: Folder>(&mut self, folder: &mut F) -> Result<Turn, FolderFault>
         ensures logs { F.logs folder.new ≡ F.logs folder.old }
-        ensures goes { (known : List Log) → F.logs folder.old ≡ Some known → IsAmong self.old.position.file known → IfOk result (λ turn. Goes (longest_of self.old) known (at self.old) (lines_of self.new) (at self.new) turn) }
-        ensures sums { (known : List ℕ) → bytes_of self.old.position.file (F.logs folder.old) ≡ Some known → result ≡ Ok Turn.Lines → HasSums known self.new.position }
+        ensures goes { (known : List Log) → F.logs folder.old ≡ Some known → IsAmong self.old.position.file known →
+            IfOk result (λ turn. Goes (longest_of self.old) known (at self.old) (lines_of self.new) (at self.new) turn) }
+        ensures sums { (known : List ℕ) → bytes_of self.old.position.file (F.logs folder.old) ≡ Some known → result ≡ Ok Turn.Lines →
+            HasSums known self.new.position }
         ensures synced { result ≡ Ok Turn.Lines → F.synced folder.new ≡ Some (self.new.position.file, self.new.position.offset) }
         ensures stays { OnErr result (self.new.position ≡ self.old.position) }
         ensures longest { longest_of self.new ≡ longest_of self.old }
@@ -254,7 +256,8 @@ impl Follower {
     fn take_lines<F: Folder>(&mut self, folder: &mut F, end: u64) -> Result<Turn, FolderFault>
         ensures logs { F.logs folder.new ≡ F.logs folder.old }
         ensures takes { IfOk result (λ turn. Takes (at self.old) (at self.new) end turn) }
-        ensures sums { (known : List ℕ) → bytes_of self.old.position.file (F.logs folder.old) ≡ Some known → result ≡ Ok Turn.Lines → HasSums known self.new.position }
+        ensures sums { (known : List ℕ) → bytes_of self.old.position.file (F.logs folder.old) ≡ Some known → result ≡ Ok Turn.Lines →
+            HasSums known self.new.position }
         ensures synced { result ≡ Ok Turn.Lines → F.synced folder.new ≡ Some (self.new.position.file, self.new.position.offset) }
         ensures stays { OnErr result (self.new.position ≡ self.old.position) }
         ensures reading { self.new.reading ≡ self.old.reading }
@@ -273,7 +276,8 @@ impl Follower {
     // The file has no line more up to its end now: goes on to the next log, where it has ended.
     fn move_on<F: Folder>(&mut self, folder: &mut F, end: u64) -> Result<Turn, FolderFault>
         ensures logs { F.logs folder.new ≡ F.logs folder.old }
-        ensures goes { (known : List Log) (bytes : List ℕ) → F.logs folder.old ≡ Some known → bytes_in self.old.position.file known ≡ Some bytes → IfOk result (λ turn. MovesOn known bytes end (at self.old) (at self.new) turn) }
+        ensures goes { (known : List Log) (bytes : List ℕ) → F.logs folder.old ≡ Some known → bytes_in self.old.position.file known ≡ Some bytes →
+            IfOk result (λ turn. MovesOn known bytes end (at self.old) (at self.new) turn) }
         ensures moves { result ≡ Ok Turn.Lines → ⊥ }
         ensures stays { OnErr result (self.new.position ≡ self.old.position) }
         ensures reading { self.new.reading ≡ self.old.reading }
@@ -291,7 +295,8 @@ impl Follower {
 
     // The position is at the beginning of the log that came next, if that is there.
     fn begin_next(&mut self, files: &[Listed], changed: u64, left: u64) -> Result<Turn, FolderFault>
-        ensures begins { IfOk result (λ turn. Begins (next_in self.old.position.file (map (λ f. f.file) (map listing files.now))) left (at self.old) (at self.new) turn) }
+        ensures begins { IfOk result (λ turn. Begins (next_in self.old.position.file (map (λ f. f.file) (map listing files.now))) left (at self.old)
+            (at self.new) turn) }
         ensures stays { OnErr result (self.new.position ≡ self.old.position) }
         ensures reading { self.new.reading ≡ self.old.reading }
     {

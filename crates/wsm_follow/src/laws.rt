@@ -17,5 +17,6 @@ pub fn read_back()
 /// Where turns gave texts, each from where the one before it ended, their lines and those behind where they
 /// ended are the lines behind where they began: each once, in order, none left out.
 pub fn each_line_once()
-    ensures { (longest : ℕ) (known : List Log) (from to : Stand) (texts : List (List ℕ)) → Follows longest known from texts to → lines_in longest texts ++ lines_at longest known to ≡ lines_at longest known from }
+    ensures { (longest : ℕ) (known : List Log) (from to : Stand) (texts : List (List ℕ)) → Follows longest known from texts to →
+        lines_in longest texts ++ lines_at longest known to ≡ lines_at longest known from }
 {}

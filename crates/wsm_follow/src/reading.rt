@@ -75,7 +75,8 @@ impl Reading {
     ) -> Result<Found, FolderFault>
         ensures logs { F.logs folder.new ≡ F.logs folder.old }
         ensures most { most_of self.new ≡ most_of self.old }
-        ensures read { (known : List ℕ) → bytes_of file (F.logs folder.old) ≡ Some known → IfOk result (λ found. Reads (most_of self.new) known start (text_of self.new) found) }
+        ensures read { (known : List ℕ) → bytes_of file (F.logs folder.old) ≡ Some known →
+            IfOk result (λ found. Reads (most_of self.new) known start (text_of self.new) found) }
         ensures whole { IfOk result (λ found. AreWhole start (text_of self.new) found) }
         ensures short { OnOk result (length (text_of self.new) ≤ most_of self.new + 65536) }
     {

@@ -32,7 +32,8 @@ fn sum_between<F: Folder>(
 ) -> Result<Option<u32>, FolderFault>
     requires { start ≤ end }
     ensures logs { F.logs folder.new ≡ F.logs folder.old }
-    ensures sum { (known : List ℕ) → bytes_of file (F.logs folder.old) ≡ Some known → IfOk result (λ o. IfSome o (λ sum. sum ≡ sum_of (take (end - start) (drop start known)))) }
+    ensures sum { (known : List ℕ) → bytes_of file (F.logs folder.old) ≡ Some known →
+        IfOk result (λ o. IfSome o (λ sum. sum ≡ sum_of (take (end - start) (drop start known)))) }
 {
     let mut sum = Crc32::new();
     let mut at = start;
@@ -56,7 +57,8 @@ pub fn sums_at<F: Folder>(
     room: &mut [u8],
 ) -> Result<Option<Sums>, FolderFault>
     ensures logs { F.logs folder.new ≡ F.logs folder.old }
-    ensures sums { (known : List ℕ) → bytes_of file (F.logs folder.old) ≡ Some known → IfOk result (λ o. IfSome o (λ s. (s.head ≡ head_sum offset known) × (s.tail ≡ tail_sum offset known))) }
+    ensures sums { (known : List ℕ) → bytes_of file (F.logs folder.old) ≡ Some known →
+        IfOk result (λ o. IfSome o (λ s. (s.head ≡ head_sum offset known) × (s.tail ≡ tail_sum offset known))) }
 {
     let head = sum_between(folder, file, 0, HEAD.min(offset), room)?;
     let tail = sum_between(folder, file, offset.saturating_sub(TAIL), offset, room)?;

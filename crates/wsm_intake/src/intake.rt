@@ -136,16 +136,20 @@ impl Intake {
 
     /// Takes the turn of a line. The bytes are then those that are written for it.
     pub fn take(&mut self, line: &[u8]) -> Result<(), AllocError>
-        ensures turned { (s : AnySource) (clocks : Option AnyClocks) (p : Program) (before : List (List ℕ)) → Fits s clocks p self.old before → OnOk result (Turned s clocks p self.new before line.now) }
-        ensures goes_on { (s : AnySource) (clocks : Option AnyClocks) (p : Program) (before : List (List ℕ)) → GoesOn s clocks p self.old before → OnOk result (GoneOn s clocks p self.new before line.now) }
+        ensures turned { (s : AnySource) (clocks : Option AnyClocks) (p : Program) (before : List (List ℕ)) → Fits s clocks p self.old before →
+            OnOk result (Turned s clocks p self.new before line.now) }
+        ensures goes_on { (s : AnySource) (clocks : Option AnyClocks) (p : Program) (before : List (List ℕ)) → GoesOn s clocks p self.old before →
+            OnOk result (GoneOn s clocks p self.new before line.now) }
     {
         self.take_line(line)
     }
 
     // The same, whatever is kept of the lines before.
     fn take_line(&mut self, line: &[u8]) -> Result<(), AllocError>
-        ensures turned { (s : AnySource) (clocks : Option AnyClocks) (p : Program) (before : List (List ℕ)) → Fits s clocks p self.old before → OnOk result (Turned s clocks p self.new before line.now) }
-        ensures behind { (s : AnySource) (clocks : Option AnyClocks) (p : Program) (records : ℤ) (k : Kept) (before : List (List ℕ)) → FitsBehind s clocks p records self.old k before → OnOk result (TurnedBehind s clocks p records self.new k before line.now) }
+        ensures turned { (s : AnySource) (clocks : Option AnyClocks) (p : Program) (before : List (List ℕ)) → Fits s clocks p self.old before →
+            OnOk result (Turned s clocks p self.new before line.now) }
+        ensures behind { (s : AnySource) (clocks : Option AnyClocks) (p : Program) (records : ℤ) (k : Kept) (before : List (List ℕ)) →
+            FitsBehind s clocks p records self.old k before → OnOk result (TurnedBehind s clocks p records self.new k before line.now) }
     {
         let Some(taken) = self.taken.checked_add(1) else {
             return Err(AllocError);
@@ -167,7 +171,8 @@ impl Intake {
 
     // The turn of the event that was read.
     fn serve(&mut self) -> Result<(), AllocError>
-        ensures { (clocks : Option AnyClocks) (p : Program) (k : Kept) (names : List (List ℕ)) → Holds clocks p self.old k → Knows (named_in clocks) self.old.names names → length k.stamps < self.old.taken →
+        ensures { (clocks : Option AnyClocks) (p : Program) (k : Kept) (names : List (List ℕ)) → Holds clocks p self.old k →
+            Knows (named_in clocks) self.old.names names → length k.stamps < self.old.taken →
             let v = voiced_in clocks p.header.schema names (clock_read self.old.reader) (Ok (event_read self.old.reader)) in
             let x = spoken_read self.old.reader v.voice in
             OnOk result (Speaks clocks p self.old self.new k v (turn_at (setting_by clocks p) k self.old.taken (Ok x)) (left_at (setting_by clocks p) k (Ok x))) }
@@ -181,7 +186,8 @@ impl Intake {
     // The turn of the event that was read, with its stamp by its key.
     fn serve_stamped(&mut self, stamp: Stamp) -> Result<(), AllocError>
         requires { stamp.time < 2 ^ 63 }
-        ensures { (clocks : Option AnyClocks) (p : Program) (k : Kept) (names : List (List ℕ)) → Holds clocks p self.old k → Knows (named_in clocks) self.old.names names → length k.stamps < self.old.taken → stamp.clock < length p.header.schema.keys →
+        ensures { (clocks : Option AnyClocks) (p : Program) (k : Kept) (names : List (List ℕ)) → Holds clocks p self.old k →
+            Knows (named_in clocks) self.old.names names → length k.stamps < self.old.taken → stamp.clock < length p.header.schema.keys →
             let v = voiced (named_in clocks) names (clock_read self.old.reader) in
             let x = spoken_read self.old.reader v.voice in
             OnOk result (Speaks clocks p self.old self.new k v (turn_by (setting_by clocks p) k self.old.taken (Some stamp) x) (left_by (Some stamp) x.identifier k.memory)) }
@@ -234,7 +240,8 @@ impl Intake {
     /// Ends the turns: what waits is told. The bytes are then those behind all turns, with the last line, whose numbers are
     /// answered, and what is counted beside them.
     pub fn end(&mut self) -> Result<LogTotals, AllocError>
-        ensures { (s : AnySource) (clocks : Option AnyClocks) (p : Program) (lines : List (List ℕ)) → Fits s clocks p self.old lines → IfOk result (Ends s clocks p self.new lines) }
+        ensures { (s : AnySource) (clocks : Option AnyClocks) (p : Program) (lines : List (List ℕ)) → Fits s clocks p self.old lines →
+            IfOk result (Ends s clocks p self.new lines) }
     {
         let counts = self.counts();
         self.told.lines.clear();
@@ -282,7 +289,8 @@ impl Intake {
 
     /// What is counted of the lines so far.
     pub fn counts(&self) -> LogCounts
-        ensures { (s : AnySource) (clocks : Option AnyClocks) (p : Program) (lines : List (List ℕ)) → Fits s clocks p self.now lines → result ≡ counts_of (query_of p) clocks (said s clocks p.header.schema lines) }
+        ensures { (s : AnySource) (clocks : Option AnyClocks) (p : Program) (lines : List (List ℕ)) → Fits s clocks p self.now lines →
+            result ≡ counts_of (query_of p) clocks (said s clocks p.header.schema lines) }
     {
         LogCounts {
             doubles: self.doubles,
@@ -316,7 +324,8 @@ impl Intake {
 
     /// What all turns come to.
     pub fn totals(&self) -> Totals
-        ensures { (p : Program) (past : List AnyEvent) (lines : List Said) → Serves p self.now.told past → self.now.taken ≡ length lines → self.now.faults ≡ counter (fault_count lines) →
+        ensures { (p : Program) (past : List AnyEvent) (lines : List Said) → Serves p self.now.told past → self.now.taken ≡ length lines →
+            self.now.faults ≡ counter (fault_count lines) →
             line_of result ≡ line_behind (query_of p) lines past }
     {
         let totals = self.told.engine.totals();
@@ -366,7 +375,8 @@ fn passes(
     identifiers: &mut Identifiers,
 ) -> Result<bool, AllocError>
     requires { time < 2 ^ 63 }
-    ensures { (clocks : Option AnyClocks) (p : Program) (k : Kept) → Serves p told.now k.fed → let w = setting_by clocks p in Remembers w (watermark w k.fed) identifiers.old k.memory →
+    ensures { (clocks : Option AnyClocks) (p : Program) (k : Kept) → Serves p told.now k.fed →
+        let w = setting_by clocks p in Remembers w (watermark w k.fed) identifiers.old k.memory →
         IfOk result (Passes w (watermark w k.fed) identifiers.new (option_map (λ t. t.now) identifier.entry) time k.memory) }
 {
     match identifier {

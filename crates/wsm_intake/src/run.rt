@@ -62,9 +62,13 @@ fn take_log<R: Read + Drop, D: Device, L: Listener>(
     listener: &mut L,
 ) -> Result<LogTotals, LogEnd>
     requires { D.has_failed out.old ≡ false }
-    ensures completes { (known : Option (List ℕ)) (s : AnySource) (clocks : Option AnyClocks) (p : Program) → Follows s.longest R.remaining known [] lines.old → Fits s clocks p intake.old [] → IfOk result (λ end. LogWritten known s clocks (D.taken out.old) (D.taken out.new) (query_of p) end.totals) }
-    ensures counts { (known : Option (List ℕ)) (s : AnySource) (clocks : Option AnyClocks) (p : Program) → Follows s.longest R.remaining known [] lines.old → Fits s clocks p intake.old [] → IfOk result (λ end. LogCounted known s clocks (query_of p) end.counts) }
-    ensures ends_early { (known : Option (List ℕ)) (s : AnySource) (clocks : Option AnyClocks) (p : Program) → Follows s.longest R.remaining known [] lines.old → Fits s clocks p intake.old [] → IfErr result (LogBroken known s clocks (D.taken out.old) (D.taken out.new) (query_of p)) }
+    ensures completes { (known : Option (List ℕ)) (s : AnySource) (clocks : Option AnyClocks) (p : Program) → Follows s.longest R.remaining known [] lines.old →
+        Fits s clocks p intake.old [] → IfOk result (λ end. LogWritten known s clocks (D.taken out.old) (D.taken out.new) (query_of p) end.totals) }
+    ensures counts { (known : Option (List ℕ)) (s : AnySource) (clocks : Option AnyClocks) (p : Program) → Follows s.longest R.remaining known [] lines.old →
+        Fits s clocks p intake.old [] → IfOk result (λ end. LogCounted known s clocks (query_of p) end.counts) }
+    ensures ends_early { (known : Option (List ℕ)) (s : AnySource) (clocks : Option AnyClocks) (p : Program) →
+        Follows s.longest R.remaining known [] lines.old → Fits s clocks p intake.old [] →
+        IfErr result (LogBroken known s clocks (D.taken out.old) (D.taken out.new) (query_of p)) }
     ensures flushed { OnOk result (D.is_flushed out.new ≡ true) }
     ensures write_failed { result ≡ Err LogEnd.WriteFailed → D.has_failed out.new ≡ true }
 {
@@ -80,8 +84,12 @@ fn take_lines<R: Read + Drop, D: Device, L: Listener>(
     listener: &mut L,
 ) -> Result<(), LogEnd>
     requires { D.has_failed out.old ≡ false }
-    ensures taken { (known : Option (List ℕ)) (s : AnySource) (clocks : Option AnyClocks) (p : Program) → Follows s.longest R.remaining known [] lines.old → Fits s clocks p intake.old [] → IfOk result (λ _. (read : List (List ℕ)) × AreAll s.longest known read × Stands s clocks p read (D.taken out.old) (D.taken out.new) intake.new) }
-    ensures ends_early { (known : Option (List ℕ)) (s : AnySource) (clocks : Option AnyClocks) (p : Program) → Follows s.longest R.remaining known [] lines.old → Fits s clocks p intake.old [] → IfErr result (LogBroken known s clocks (D.taken out.old) (D.taken out.new) (query_of p)) }
+    ensures taken { (known : Option (List ℕ)) (s : AnySource) (clocks : Option AnyClocks) (p : Program) → Follows s.longest R.remaining known [] lines.old →
+        Fits s clocks p intake.old [] →
+        IfOk result (λ _. (read : List (List ℕ)) × AreAll s.longest known read × Stands s clocks p read (D.taken out.old) (D.taken out.new) intake.new) }
+    ensures ends_early { (known : Option (List ℕ)) (s : AnySource) (clocks : Option AnyClocks) (p : Program) →
+        Follows s.longest R.remaining known [] lines.old → Fits s clocks p intake.old [] →
+        IfErr result (LogBroken known s clocks (D.taken out.old) (D.taken out.new) (query_of p)) }
     ensures works { OnOk result (D.has_failed out.new ≡ false) }
     ensures write_failed { result ≡ Err LogEnd.WriteFailed → D.has_failed out.new ≡ true }
 {
@@ -96,11 +104,14 @@ fn take_lines<R: Read + Drop, D: Device, L: Listener>(
 // Writes what stands behind all turns, and has all that was written leave.
 fn finish<D: Device>(intake: &mut Intake, out: &mut D) -> Result<LogTotals, LogEnd>
     requires { D.has_failed out.old ≡ false }
-    ensures completes { (known : Option (List ℕ)) (s : AnySource) (clocks : Option AnyClocks) (p : Program) (read : List (List ℕ)) (old : Option (List ℕ)) → AreAll s.longest known read → Stands s clocks p read old (D.taken out.old) intake.old →
+    ensures completes { (known : Option (List ℕ)) (s : AnySource) (clocks : Option AnyClocks) (p : Program) (read : List (List ℕ)) (old : Option (List ℕ)) →
+        AreAll s.longest known read → Stands s clocks p read old (D.taken out.old) intake.old →
         IfOk result (λ end. Completes known s clocks (query_of p) read old (D.taken out.new) end.totals) }
-    ensures counts { (known : Option (List ℕ)) (s : AnySource) (clocks : Option AnyClocks) (p : Program) (read : List (List ℕ)) (old : Option (List ℕ)) → AreAll s.longest known read → Stands s clocks p read old (D.taken out.old) intake.old →
+    ensures counts { (known : Option (List ℕ)) (s : AnySource) (clocks : Option AnyClocks) (p : Program) (read : List (List ℕ)) (old : Option (List ℕ)) →
+        AreAll s.longest known read → Stands s clocks p read old (D.taken out.old) intake.old →
         IfOk result (λ end. LogCounted known s clocks (query_of p) end.counts) }
-    ensures ends_early { (known : Option (List ℕ)) (s : AnySource) (clocks : Option AnyClocks) (p : Program) (read : List (List ℕ)) (old : Option (List ℕ)) → AreAll s.longest known read → Stands s clocks p read old (D.taken out.old) intake.old →
+    ensures ends_early { (known : Option (List ℕ)) (s : AnySource) (clocks : Option AnyClocks) (p : Program) (read : List (List ℕ)) (old : Option (List ℕ)) →
+        AreAll s.longest known read → Stands s clocks p read old (D.taken out.old) intake.old →
         IfErr result (EndsEarly known s clocks (query_of p) read old (D.taken out.new)) }
     ensures flushed { OnOk result (D.is_flushed out.new ≡ true) }
     ensures write_failed { result ≡ Err LogEnd.WriteFailed → D.has_failed out.new ≡ true }

@@ -33,7 +33,8 @@ impl Intake {
     ///
     /// Memory was refused. A part may have been added, and the intake can't go on.
     pub fn save(&mut self, text: &mut Vec<u8>) -> Result<bool, AllocError>
-        ensures goes_on { (s : AnySource) (clocks : Option AnyClocks) (p : AnyProgram) (before : List (List ℕ)) → GoesOn s clocks p self.old before → OnOk result (GoesOn s clocks p self.new before) }
+        ensures goes_on { (s : AnySource) (clocks : Option AnyClocks) (p : AnyProgram) (before : List (List ℕ)) → GoesOn s clocks p self.old before →
+            OnOk result (GoesOn s clocks p self.new before) }
         ensures saved { (s : AnySource) (clocks : Option AnyClocks) (p : AnyProgram) (before : List (List ℕ)) → GoesOn s clocks p self.old before →
             IfOk result (λ is_saved. is_saved ≡ true → (t : List ℕ) × (text.new.items ≡ text.old.items ++ t) × Saved s clocks p before t) }
         ensures grows { OnOk result (take (length text.old.items) text.new.items ≡ text.old.items) }
@@ -64,7 +65,8 @@ impl Intake {
         text: &[u8],
     ) -> Result<Option<Intake>, AllocError>
         requires { AreClocks clocks }
-        ensures { (s : AnySource) (p : AnyProgram) (before : List (List ℕ)) → GoesOn s clocks p self [] → Saved s clocks p before text.now → IfOk result (λ o. IfSome o (λ intake. GoesOn s clocks p intake before)) }
+        ensures { (s : AnySource) (p : AnyProgram) (before : List (List ℕ)) → GoesOn s clocks p self [] → Saved s clocks p before text.now →
+            IfOk result (λ o. IfSome o (λ intake. GoesOn s clocks p intake before)) }
     {
         let mut from = Restoring::new(text);
         let count = count_in(clocks, self.told.schema().key_count());
@@ -84,7 +86,8 @@ impl Intake {
         standing: Standing,
         events: &[Event],
     ) -> Result<Option<Intake>, AllocError>
-        ensures { (s : AnySource) (clocks : Option AnyClocks) (p : AnyProgram) (before : List (List ℕ)) (text : List ℕ) (saved : Saved s clocks p before text) → GoesOn s clocks p self [] → IsRead s clocks p before text saved standing (map event_of events.now) →
+        ensures { (s : AnySource) (clocks : Option AnyClocks) (p : AnyProgram) (before : List (List ℕ)) (text : List ℕ) (saved : Saved s clocks p before text) →
+            GoesOn s clocks p self [] → IsRead s clocks p before text saved standing (map event_of events.now) →
             IfOk result (λ o. IfSome o (λ intake. GoesOn s clocks p intake before)) }
     {
         let (told, mut reader, records) = self.into_parts();
@@ -113,7 +116,8 @@ fn standing_behind(told: Told, reader: LineReader, records: i64, standing: Stand
     ensures reader { result.reader ≡ reader }
     ensures waiting { result.waiting ≡ standing.waiting }
     ensures names { result.names ≡ standing.names }
-    ensures identifiers { (clocks : Option AnyClocks) (mark : ℤ) (memory : Memory) → let w = setting_by clocks told.engine.program in Recalls w.clock w.shape mark standing.known memory → Remembers w mark result.identifiers memory }
+    ensures identifiers { (clocks : Option AnyClocks) (mark : ℤ) (memory : Memory) →
+        let w = setting_by clocks told.engine.program in Recalls w.clock w.shape mark standing.known memory → Remembers w mark result.identifiers memory }
     ensures records { result.records ≡ records }
     ensures first { result.first.items ≡ standing.first.items }
     ensures taken { result.taken ≡ standing.taken }
@@ -137,7 +141,8 @@ fn standing_behind(told: Told, reader: LineReader, records: i64, standing: Stand
 
 // The identifiers that others have come to, by a program's clock and windows.
 fn resumed(known: Doubles, program: &Program) -> Identifiers
-    ensures { (clocks : Option AnyClocks) (mark : ℤ) (memory : Memory) → let w = setting_by clocks program.now in Recalls w.clock w.shape mark known memory → Remembers w mark result memory }
+    ensures { (clocks : Option AnyClocks) (mark : ℤ) (memory : Memory) → let w = setting_by clocks program.now in Recalls w.clock w.shape mark known memory →
+        Remembers w mark result memory }
 {
     let header = program.header();
     Identifiers::resume(known, header.clock, header.shape)

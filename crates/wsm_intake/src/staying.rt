@@ -50,8 +50,10 @@ impl Staying {
 
     /// Has the engine take the next event.
     pub fn feed(&mut self, engine: &mut Engine, event: &Event) -> Result<Reply, AllocError>
-        ensures fed { (p : Program) (past : List AnyEvent) → engine.old.program ≡ p → EngineFits engine.old past → IfOk result (Fed p engine.new past (event_of event.now)) }
-        ensures cuts { (p : Program) (past : List AnyEvent) → engine.old.program ≡ p → EngineFits engine.old past → Cuts p self.old past → OnOk result (Cuts p self.new (event_of event.now ∷ past)) }
+        ensures fed { (p : Program) (past : List AnyEvent) → engine.old.program ≡ p → EngineFits engine.old past →
+            IfOk result (Fed p engine.new past (event_of event.now)) }
+        ensures cuts { (p : Program) (past : List AnyEvent) → engine.old.program ≡ p → EngineFits engine.old past → Cuts p self.old past →
+            OnOk result (Cuts p self.new (event_of event.now ∷ past)) }
     {
         let before = engine.mark();
         let reply = engine.feed(event);
@@ -61,7 +63,8 @@ impl Staying {
 
     // Takes the next event, of which this is told. Also one that can't stay is saved: so it is known of each that it comes back.
     fn take(&mut self, event: &Event, judged: Judged) -> Result<(), AllocError>
-        ensures { (p : Program) (past : List AnyEvent) → Cuts p self.old past → IsTold (query_of p) (rows_with event_text past) (event_of event.now) judged → OnOk result (Cuts p self.new (event_of event.now ∷ past)) }
+        ensures { (p : Program) (past : List AnyEvent) → Cuts p self.old past → IsTold (query_of p) (rows_with event_text past) (event_of event.now) judged →
+            OnOk result (Cuts p self.new (event_of event.now ∷ past)) }
     {
         self.text.clear();
         event.save(&mut self.text)?;

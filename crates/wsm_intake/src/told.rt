@@ -114,7 +114,8 @@ impl Told {
     /// Memory was refused. A part may have been added, and no event may be taken any more.
     pub fn save_needed(&mut self, text: &mut Vec<u8>) -> Result<bool, AllocError>
         ensures serves { (p : Program) (past : List AnyEvent) → Serves p self.old past → OnOk result (Serves p self.new past) }
-        ensures saved { (p : Program) (past : List AnyEvent) → Serves p self.old past → IfOk result (λ is_saved. is_saved ≡ true → IsListed (query_of p) past text.old.items text.new.items) }
+        ensures saved { (p : Program) (past : List AnyEvent) → Serves p self.old past →
+            IfOk result (λ is_saved. is_saved ≡ true → IsListed (query_of p) past text.old.items text.new.items) }
         ensures grows { OnOk result (take (length text.old.items) text.new.items ≡ text.old.items) }
         ensures is_saved { IfOk result (λ is_saved. is_saved ≡ is_some self.old.staying) }
         ensures keeps { is_some self.new.staying ≡ is_some self.old.staying }
@@ -132,7 +133,8 @@ impl Told {
     // Has the engine take an event.
     fn feed(&mut self, event: &Event) -> Result<Reply, AllocError>
         ensures fed { (p : Program) (past : List AnyEvent) → Serves p self.old past → IfOk result (Fed p self.new.engine past (event_of event.now)) }
-        ensures staying { (p : Program) (past : List AnyEvent) → Serves p self.old past → OnOk result (IfSome self.new.staying (λ c. Cuts p c (event_of event.now ∷ past))) }
+        ensures staying { (p : Program) (past : List AnyEvent) → Serves p self.old past →
+            OnOk result (IfSome self.new.staying (λ c. Cuts p c (event_of event.now ∷ past))) }
         ensures keeps { is_some self.new.staying ≡ is_some self.old.staying }
         ensures lines { self.new.lines.items ≡ self.old.lines.items }
     {
@@ -144,7 +146,8 @@ impl Told {
 
     // Adds the line of a refusal, if there is one.
     fn tell(&mut self, number: u64, refusal: Option<Refusal>) -> Result<(), AllocError>
-        ensures lines { (declared : Declared) → OnOk result (self.new.lines.items ≡ self.old.lines.items ++ lines_text declared (refusal_lines number refusal)) }
+        ensures lines { (declared : Declared) →
+            OnOk result (self.new.lines.items ≡ self.old.lines.items ++ lines_text declared (refusal_lines number refusal)) }
         ensures others { self.new ≡ record self.old { lines = self.new.lines } }
     {
         match refusal {

@@ -49,7 +49,8 @@ pub trait JournalFolder {
     /// Writes bytes behind the journal's end.
     fn append(&mut self, bytes: &[u8]) -> Result<(), FolderError>
         ensures done { OnOk result (folder self.new ≡ called (Append bytes.now) (folder self.old)) }
-        ensures time { Elapses (moment self.old) (moment self.new) (left_since self.old) (left_since self.new) (MayLeaveIn (Append bytes.now) (folder self.old)) }
+        ensures time { Elapses (moment self.old) (moment self.new) (left_since self.old) (left_since self.new)
+            (MayLeaveIn (Append bytes.now) (folder self.old)) }
         ensures cause { HasCause (has_failed self.new) result };
 
     /// Has what was written to the journal reach the disk.
@@ -69,7 +70,8 @@ pub trait JournalFolder {
     fn write_next(&mut self, bytes: &[u8]) -> Result<(), FolderError>
         ensures done { OnOk result (folder self.new ≡ called (WriteNext bytes.now) (folder self.old)) }
         ensures names { HasSameNames (folder self.old) (folder self.new) }
-        ensures time { Elapses (moment self.old) (moment self.new) (left_since self.old) (left_since self.new) (MayLeaveIn (WriteNext bytes.now) (folder self.old)) }
+        ensures time { Elapses (moment self.old) (moment self.new) (left_since self.old) (left_since self.new)
+            (MayLeaveIn (WriteNext bytes.now) (folder self.old)) }
         ensures cause { HasCause (has_failed self.new) result };
 
     /// Has what was written to that file reach the disk.

@@ -125,8 +125,11 @@ impl<F: JournalFolder> JournalFile<F> {
         requires rows { are_rows rows.now ≡ true }
         requires position { is_position position.now ≡ true }
         ensures settled { OnOk result (IsOpen F.folder self.new) }
-        ensures appended { OnOk result (records_of F.folder self.new ≡ option_map (λ es. es ++ entry_behind (last_of self.old) lines rows.now position.now ∷ []) (records_of F.folder self.old)) }
-        ensures any_moment { LeavesSince F.moment F.left_since (folder_of self.old) (folder_of self.new) (HasOneMore (F.folder (folder_of self.old)) (entry_behind (last_of self.old) lines rows.now position.now)) }
+        ensures appended { OnOk result
+            (records_of F.folder self.new
+            ≡ option_map (λ es. es ++ entry_behind (last_of self.old) lines rows.now position.now ∷ []) (records_of F.folder self.old)) }
+        ensures any_moment { LeavesSince F.moment F.left_since (folder_of self.old) (folder_of self.new)
+            (HasOneMore (F.folder (folder_of self.old)) (entry_behind (last_of self.old) lines rows.now position.now)) }
         ensures failed { IsErrOf result Failed → F.has_failed (folder_of self.new) ≡ true }
         ensures full { IsErrOf result Full → last_of self.old ≡ Some (2 ^ 64 - 1) }
         ensures whole { IsErrOf result Damaged → ⊥ }
@@ -156,7 +159,8 @@ impl<F: JournalFolder> JournalFile<F> {
         ensures settled { OnOk result (IsOpen F.folder self.new) }
         ensures replaced { OnOk result (records_of F.folder self.new ≡ option_map (λ _. map entry_seen records.now) (records_of F.folder self.old)) }
         ensures kept { IfErr result (λ e. is_kept e ≡ true → IsOpen F.folder self.new × (records_of F.folder self.new ≡ records_of F.folder self.old)) }
-        ensures any_moment { LeavesSince F.moment F.left_since (folder_of self.old) (folder_of self.new) (IsLeftOr (F.folder (folder_of self.old)) (map entry_seen records.now)) }
+        ensures any_moment { LeavesSince F.moment F.left_since (folder_of self.old) (folder_of self.new)
+            (IsLeftOr (F.folder (folder_of self.old)) (map entry_seen records.now)) }
         ensures failed { IfErr result (IsCaused (F.has_failed (folder_of self.new))) }
     {
         match replace_all(alloc, &mut self.folder, records) {
@@ -273,7 +277,8 @@ fn replace_all<F: JournalFolder>(
 ) -> Result<Option<u64>, ReplaceError>
     requires { AreRecords None (map entry_seen records.now) }
     ensures settled { IfOk result (λ last. IfKnown (F.folder folder.new) (IsSettledAt last)) }
-    ensures records { OnOk result (option_map records_in (F.folder folder.new) ≡ option_map (λ _. map entry_seen records.now) (option_map records_in (F.folder folder.old))) }
+    ensures records { OnOk result (option_map records_in (F.folder folder.new)
+        ≡ option_map (λ _. map entry_seen records.now) (option_map records_in (F.folder folder.old))) }
     ensures kept { IfErr result (λ e. is_kept e ≡ true → HasSameNames (F.folder folder.old) (F.folder folder.new)) }
     ensures any_moment { LeavesSince F.moment F.left_since folder.old folder.new (IsLeftOr (F.folder folder.old) (map entry_seen records.now)) }
     ensures failed { IfErr result (IsCaused (F.has_failed folder.new)) }

@@ -21,19 +21,24 @@ pub fn read_back()
 /// that was appended, where the bytes are its own, and else without it. Of torn bytes it is asked that they
 /// fit no sum: at no place of them stands a line that has the sum of the bytes in front of it.
 pub fn torn_appends()
-    ensures whole { (entries : List Entry) (more : Entry) → AreRecords None (entries ++ more ∷ []) → read_journal (journal_text entries ++ record_text more) ≡ read_as (entries ++ more ∷ []) [] }
-    ensures torn { (entries : List Entry) (torn : List ℕ) → AreRecords None entries → FitsNoSum torn → read_journal (journal_text entries ++ torn) ≡ read_as entries torn }
+    ensures whole { (entries : List Entry) (more : Entry) → AreRecords None (entries ++ more ∷ []) →
+        read_journal (journal_text entries ++ record_text more) ≡ read_as (entries ++ more ∷ []) [] }
+    ensures torn { (entries : List Entry) (torn : List ℕ) → AreRecords None entries → FitsNoSum torn →
+        read_journal (journal_text entries ++ torn) ≡ read_as entries torn }
 {}
 
 /// A whole record with a later number, behind bytes that the next record isn't whole in, reads as damage.
 pub fn damage_is_told()
-    ensures { (entries : List Entry) (torn : List ℕ) (later : Entry) (rest : List ℕ) → AreRecords None entries → IsRecord later → is_later (last_number None entries) later.number ≡ true → next_whole (last_number None entries) (torn ++ (record_text later ++ rest)) ≡ None → read_journal (journal_text entries ++ (torn ++ (record_text later ++ rest))) ≡ reading_with entries (length (journal_text entries)) Damage }
+    ensures { (entries : List Entry) (torn : List ℕ) (later : Entry) (rest : List ℕ) → AreRecords None entries → IsRecord later →
+        is_later (last_number None entries) later.number ≡ true → next_whole (last_number None entries) (torn ++ (record_text later ++ rest)) ≡ None →
+        read_journal (journal_text entries ++ (torn ++ (record_text later ++ rest))) ≡ reading_with entries (length (journal_text entries)) Damage }
 {}
 
 /// A power cut before, in or behind an append that is written and synced leaves a text that reads as the
 /// records with the new one or without it, where torn bytes fit no sum. Behind the sync it has the new one.
 pub fn cut_appends()
-    ensures moments { (entries : List Entry) (more : Entry) → AreRecords None (entries ++ more ∷ []) → EachMoment (LeavesOnly (IsBeforeOrAfter entries more)) (settled (journal_text entries)) (append_calls (record_text more)) }
+    ensures moments { (entries : List Entry) (more : Entry) → AreRecords None (entries ++ more ∷ []) →
+        EachMoment (LeavesOnly (IsBeforeOrAfter entries more)) (settled (journal_text entries)) (append_calls (record_text more)) }
     ensures last { (old more : List ℕ) → after_calls (settled old) (append_calls more) ≡ settled (old ++ more) }
 {}
 

@@ -43,7 +43,8 @@ fn replace_by<F: JournalFolder>(
     ensures settled { OnOk result (IsOpen F.folder journal.new) }
     ensures replaced { OnOk result (records_of F.folder journal.new ≡ option_map (λ _. entry_seen written.now ∷ []) (records_of F.folder journal.old)) }
     ensures kept { IfErr result (λ e. is_kept e ≡ true → IsOpen F.folder journal.new × (records_of F.folder journal.new ≡ records_of F.folder journal.old)) }
-    ensures any_moment { LeavesSince F.moment F.left_since (folder_of journal.old) (folder_of journal.new) (IsLeftOr (F.folder (folder_of journal.old)) (entry_seen written.now ∷ [])) }
+    ensures any_moment { LeavesSince F.moment F.left_since (folder_of journal.old) (folder_of journal.new)
+        (IsLeftOr (F.folder (folder_of journal.old)) (entry_seen written.now ∷ [])) }
     ensures failed { IfErr result (IsCaused (F.has_failed (folder_of journal.new))) }
 {
     journal.replace(alloc, &[*written])
@@ -58,10 +59,13 @@ pub fn replace_by_head<F: JournalFolder>(
 ) -> Result<bool, ReplaceError>
     requires settled { IsOpen F.folder journal.old }
     ensures settled { OnOk result (IsOpen F.folder journal.new) }
-    ensures replaced { IfOk result (λ is_cut. is_cut ≡ true → records_of F.folder journal.new ≡ option_map (λ _. head_entry rows.now position.now ∷ []) (records_of F.folder journal.old)) }
+    ensures replaced { IfOk result
+        (λ is_cut. is_cut ≡ true →
+        records_of F.folder journal.new ≡ option_map (λ _. head_entry rows.now position.now ∷ []) (records_of F.folder journal.old)) }
     ensures uncut { IfOk result (λ is_cut. is_cut ≡ false → records_of F.folder journal.new ≡ records_of F.folder journal.old) }
     ensures kept { IfErr result (λ e. is_kept e ≡ true → IsOpen F.folder journal.new × (records_of F.folder journal.new ≡ records_of F.folder journal.old)) }
-    ensures any_moment { LeavesSince F.moment F.left_since (folder_of journal.old) (folder_of journal.new) (IsLeftOr (F.folder (folder_of journal.old)) (head_entry rows.now position.now ∷ [])) }
+    ensures any_moment { LeavesSince F.moment F.left_since (folder_of journal.old) (folder_of journal.new)
+        (IsLeftOr (F.folder (folder_of journal.old)) (head_entry rows.now position.now ∷ [])) }
     ensures failed { IfErr result (IsCaused (F.has_failed (folder_of journal.new))) }
 {
     let head = Record {

@@ -34,7 +34,8 @@ impl HeadRow {
     ///
     /// Memory was refused.
     pub fn new(alloc: Global, name: &[u8], sum: u32) -> Result<Option<HeadRow>, AllocError>
-        ensures { IfOk result (λ o. option_map row_in o ≡ (if (length name.now == 16) && are_rows (head_row name.now sum) then Some (head_row name.now sum) else None)) }
+        ensures { IfOk result (λ o. option_map row_in o
+            ≡ (if (length name.now == 16) && are_rows (head_row name.now sum) then Some (head_row name.now sum) else None)) }
     {
         let bytes = written(alloc, name, sum)?;
         if name.len() == 16 && are_rows(&bytes) {

@@ -17,8 +17,10 @@ ghost use Rattle.wsm_live.specs.Protocol.{items_text, journal_by, run_by};
 
 /// What is written and handed out hangs on lines, and not on the pieces that they come in.
 pub fn one_piece()
-    ensures lines { (turn : Turn) (before first second : List (List ℕ)) → told_for turn before (first ++ second) ≡ told_for turn before first ++ told_for turn (with_lines before first) second }
-    ensures text { (turn : Turn) (before first second : List (List ℕ)) → handed_out turn before (first ++ second) ≡ handed_out turn before first ++ handed_out turn (with_lines before first) second }
+    ensures lines { (turn : Turn) (before first second : List (List ℕ)) →
+        told_for turn before (first ++ second) ≡ told_for turn before first ++ told_for turn (with_lines before first) second }
+    ensures text { (turn : Turn) (before first second : List (List ℕ)) →
+        handed_out turn before (first ++ second) ≡ handed_out turn before first ++ handed_out turn (with_lines before first) second }
     ensures all { (turn : Turn) (lines : List (List ℕ)) → told turn (with_lines [] lines) ≡ told_for turn [] lines }
 {}
 
@@ -55,17 +57,25 @@ pub fn is_run()
 /// is handed out at a restart and for a chunk are the protocol's items, as bytes, and a head alone that stands for all lines is what the
 /// protocol's cut of all chunks leaves.
 pub fn is_protocol()
-    ensures behind { (turn : Turn) (longest : ℕ) (front : List (List ℕ)) (es : List Entry) → world.lines_behind (run_by turn) (journal_by turn longest front es) ≡ told_for turn (with_lines [] front) (lines_behind longest es) }
-    ensures chunk { (turn : Turn) (longest : ℕ) (front : List (List ℕ)) (head : Entry) (chunks : List Entry) (more : Entry) → journal_by turn longest front (head ∷ (chunks ++ more ∷ [])) ≡ with_chunk (journal_by turn longest front (head ∷ chunks)) (read_lines longest more.rows) }
-    ensures more { (turn : Turn) (longest : ℕ) (front : List (List ℕ)) (head : Entry) (chunks : List Entry) (rows : List (List ℕ)) → lines_of_chunk (run_by turn) (journal_by turn longest front (head ∷ chunks)) rows ≡ told_for turn (with_lines (with_lines [] front) (chunk_lines longest chunks)) rows }
-    ensures cut { (turn : Turn) (longest : ℕ) (front : List (List ℕ)) (head cut : Entry) (chunks : List Entry) → journal_by turn longest (front ++ chunk_lines longest chunks) (cut ∷ []) ≡ cut_front (run_by turn) (length chunks) (journal_by turn longest front (head ∷ chunks)) }
+    ensures behind { (turn : Turn) (longest : ℕ) (front : List (List ℕ)) (es : List Entry) →
+        world.lines_behind (run_by turn) (journal_by turn longest front es) ≡ told_for turn (with_lines [] front) (lines_behind longest es) }
+    ensures chunk { (turn : Turn) (longest : ℕ) (front : List (List ℕ)) (head : Entry) (chunks : List Entry) (more : Entry) →
+        journal_by turn longest front (head ∷ (chunks ++ more ∷ []))
+        ≡ with_chunk (journal_by turn longest front (head ∷ chunks)) (read_lines longest more.rows) }
+    ensures more { (turn : Turn) (longest : ℕ) (front : List (List ℕ)) (head : Entry) (chunks : List Entry) (rows : List (List ℕ)) →
+        lines_of_chunk (run_by turn) (journal_by turn longest front (head ∷ chunks)) rows
+        ≡ told_for turn (with_lines (with_lines [] front) (chunk_lines longest chunks)) rows }
+    ensures cut { (turn : Turn) (longest : ℕ) (front : List (List ℕ)) (head cut : Entry) (chunks : List Entry) →
+        journal_by turn longest (front ++ chunk_lines longest chunks) (cut ∷ [])
+        ≡ cut_front (run_by turn) (length chunks) (journal_by turn longest front (head ∷ chunks)) }
     ensures items { (count sum : ℕ) (lines : List (List ℕ)) → items_text sum (world.numbered count lines) ≡ numbered count sum lines }
 {}
 
 /// Whatever happens, and whatever dies at whichever moment, the table has the first lines that are written for the log, each once and
 /// in their order.
 pub fn exactly_once()
-    ensures { (turn : Turn) (events : List Event) → IsFrontOf (after_all (run_by turn) events).table (told_for turn [] (log_of (after_all (run_by turn) events))) }
+    ensures { (turn : Turn) (events : List Event) →
+        IsFrontOf (after_all (run_by turn) events).table (told_for turn [] (log_of (after_all (run_by turn) events))) }
 {
     wsm_protocol::laws::exactly_once();
 }

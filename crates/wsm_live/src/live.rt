@@ -166,10 +166,13 @@ impl<F: JournalFolder, T: LineTaker> Live<F, T> {
     ) -> Result<Live<F, T>, (LiveError, F)>
         requires position { is_position begin.now ≡ true }
         ensures settled { IfOk result (λ live. IsOpen F.folder (journal_of live)) }
-        ensures records { IfOk result (λ live. records_of F.folder (journal_of live) ≡ option_map (λ d. begun (row_in head.now) begin.now (records_in d)) (F.folder folder)) }
-        ensures opened { IfOk result (λ live. IfKnown (F.folder folder) (λ d. Opened T.turn T.stands T.states (row_in head.now) begin.now (records_in d) run live out.old.items out.new.items)) }
+        ensures records { IfOk result (λ live. records_of F.folder (journal_of live)
+            ≡ option_map (λ d. begun (row_in head.now) begin.now (records_in d)) (F.folder folder)) }
+        ensures opened { IfOk result (λ live. IfKnown (F.folder folder)
+            (λ d. Opened T.turn T.stands T.states (row_in head.now) begin.now (records_in d) run live out.old.items out.new.items)) }
         ensures kept { OnErr result (out.new.items ≡ out.old.items) }
-        ensures any_moment { IfOk result (λ live. LeavesSince F.moment F.left_since folder (folder_of (journal_of live)) (IsLeftOpened (F.folder folder) (row_in head.now) begin.now)) }
+        ensures any_moment { IfOk result
+            (λ live. LeavesSince F.moment F.left_since folder (folder_of (journal_of live)) (IsLeftOpened (F.folder folder) (row_in head.now) begin.now)) }
         ensures any_moment_err { IfErr result (λ e. LeavesSince F.moment F.left_since folder e.1 (IsLeftOpened (F.folder folder) (row_in head.now) begin.now)) }
     {
         match JournalFile::open(alloc, folder) {
@@ -191,11 +194,17 @@ impl<F: JournalFolder, T: LineTaker> Live<F, T> {
         requires settled { IsOpen F.folder journal }
         requires position { is_position begin.now ≡ true }
         ensures settled { IfOk result (λ live. IsOpen F.folder (journal_of live)) }
-        ensures records { IfOk result (λ live. IsBegun (read_journal bytes.now).entries (last_of journal) (row_in head.now) begin.now (records_of F.folder journal) (records_of F.folder (journal_of live))) }
-        ensures opened { IfOk result (λ live. Opened T.turn T.stands T.states (row_in head.now) begin.now (read_journal bytes.now).entries run live out.old.items out.new.items) }
+        ensures records { IfOk result (λ live. IsBegun (read_journal bytes.now).entries (last_of journal) (row_in head.now) begin.now
+            (records_of F.folder journal) (records_of F.folder (journal_of live))) }
+        ensures opened { IfOk result (λ live. Opened T.turn T.stands T.states (row_in head.now) begin.now
+            (read_journal bytes.now).entries run live out.old.items out.new.items) }
         ensures kept { OnErr result (out.new.items ≡ out.old.items) }
-        ensures any_moment { IfOk result (λ live. LeavesSince F.moment F.left_since (folder_of journal) (folder_of (journal_of live)) (IsLeftBegun (F.folder (folder_of journal)) (read_journal bytes.now).entries (last_of journal) (row_in head.now) begin.now)) }
-        ensures any_moment_err { IfErr result (λ e. LeavesSince F.moment F.left_since (folder_of journal) e.1 (IsLeftBegun (F.folder (folder_of journal)) (read_journal bytes.now).entries (last_of journal) (row_in head.now) begin.now)) }
+        ensures any_moment { IfOk result
+            (λ live. LeavesSince F.moment F.left_since (folder_of journal) (folder_of (journal_of live))
+            (IsLeftBegun (F.folder (folder_of journal)) (read_journal bytes.now).entries (last_of journal) (row_in head.now) begin.now)) }
+        ensures any_moment_err { IfErr result
+            (λ e. LeavesSince F.moment F.left_since (folder_of journal) e.1
+            (IsLeftBegun (F.folder (folder_of journal)) (read_journal bytes.now).entries (last_of journal) (row_in head.now) begin.now)) }
     {
         match read_journal(alloc, bytes) {
             Ok(read) => Live::opened_by(alloc, journal, run, &read.records, head, begin, out),
@@ -216,11 +225,17 @@ impl<F: JournalFolder, T: LineTaker> Live<F, T> {
         requires settled { IsOpen F.folder journal }
         requires position { is_position begin.now ≡ true }
         ensures settled { IfOk result (λ live. IsOpen F.folder (journal_of live)) }
-        ensures records { IfOk result (λ live. IsBegun (map entry_seen records.now) (last_of journal) (row_in head.now) begin.now (records_of F.folder journal) (records_of F.folder (journal_of live))) }
-        ensures opened { IfOk result (λ live. Opened T.turn T.stands T.states (row_in head.now) begin.now (map entry_seen records.now) run live out.old.items out.new.items) }
+        ensures records { IfOk result (λ live. IsBegun (map entry_seen records.now) (last_of journal) (row_in head.now) begin.now (records_of F.folder journal)
+            (records_of F.folder (journal_of live))) }
+        ensures opened { IfOk result (λ live. Opened T.turn T.stands T.states (row_in head.now) begin.now
+            (map entry_seen records.now) run live out.old.items out.new.items) }
         ensures kept { OnErr result (out.new.items ≡ out.old.items) }
-        ensures any_moment { IfOk result (λ live. LeavesSince F.moment F.left_since (folder_of journal) (folder_of (journal_of live)) (IsLeftBegun (F.folder (folder_of journal)) (map entry_seen records.now) (last_of journal) (row_in head.now) begin.now)) }
-        ensures any_moment_err { IfErr result (λ e. LeavesSince F.moment F.left_since (folder_of journal) e.1 (IsLeftBegun (F.folder (folder_of journal)) (map entry_seen records.now) (last_of journal) (row_in head.now) begin.now)) }
+        ensures any_moment { IfOk result
+            (λ live. LeavesSince F.moment F.left_since (folder_of journal) (folder_of (journal_of live))
+            (IsLeftBegun (F.folder (folder_of journal)) (map entry_seen records.now) (last_of journal) (row_in head.now) begin.now)) }
+        ensures any_moment_err { IfErr result
+            (λ e. LeavesSince F.moment F.left_since (folder_of journal) e.1
+            (IsLeftBegun (F.folder (folder_of journal)) (map entry_seen records.now) (last_of journal) (row_in head.now) begin.now)) }
     {
         match resumed(run, head.bytes(), records) {
             Ok(run) => {
@@ -254,12 +269,18 @@ impl<F: JournalFolder, T: LineTaker> Live<F, T> {
         requires settled { IsOpen F.folder (journal_of self) }
         requires position { is_position begin.now ≡ true }
         ensures settled { IfOk result (λ live. IsOpen F.folder (journal_of live)) }
-        ensures records { IfOk result (λ live. IsBegun (map entry_seen records.now) (last_of (journal_of self)) (row_in head.now) begin.now (records_of F.folder (journal_of self)) (records_of F.folder (journal_of live))) }
-        ensures gone_on { IfOk result (λ live. GoneOn T.turn T.stands (row_in head.now) begin.now (map entry_seen records.now) (run_of self) live out.old.items out.new.items) }
+        ensures records { IfOk result (λ live. IsBegun (map entry_seen records.now) (last_of (journal_of self)) (row_in head.now) begin.now
+            (records_of F.folder (journal_of self)) (records_of F.folder (journal_of live))) }
+        ensures gone_on { IfOk result (λ live. GoneOn T.turn T.stands (row_in head.now) begin.now (map entry_seen records.now)
+            (run_of self) live out.old.items out.new.items) }
         ensures front { IfOk result (λ live. front_of live ≡ front_of self) }
         ensures kept { OnErr result (out.new.items ≡ out.old.items) }
-        ensures any_moment { IfOk result (λ live. LeavesSince F.moment F.left_since (folder_of (journal_of self)) (folder_of (journal_of live)) (IsLeftBegun (F.folder (folder_of (journal_of self))) (map entry_seen records.now) (last_of (journal_of self)) (row_in head.now) begin.now)) }
-        ensures any_moment_err { IfErr result (λ e. LeavesSince F.moment F.left_since (folder_of (journal_of self)) e.1 (IsLeftBegun (F.folder (folder_of (journal_of self))) (map entry_seen records.now) (last_of (journal_of self)) (row_in head.now) begin.now)) }
+        ensures any_moment { IfOk result
+            (λ live. LeavesSince F.moment F.left_since (folder_of (journal_of self)) (folder_of (journal_of live))
+            (IsLeftBegun (F.folder (folder_of (journal_of self))) (map entry_seen records.now) (last_of (journal_of self)) (row_in head.now) begin.now)) }
+        ensures any_moment_err { IfErr result
+            (λ e. LeavesSince F.moment F.left_since (folder_of (journal_of self)) e.1
+            (IsLeftBegun (F.folder (folder_of (journal_of self))) (map entry_seen records.now) (last_of (journal_of self)) (row_in head.now) begin.now)) }
     {
         let mut live = self;
         match live.take_records(records, head, begin, out) {
@@ -279,11 +300,15 @@ impl<F: JournalFolder, T: LineTaker> Live<F, T> {
         requires settled { IsOpen F.folder (journal_of self.old) }
         requires position { is_position begin.now ≡ true }
         ensures settled { OnOk result (IsOpen F.folder (journal_of self.new)) }
-        ensures records { OnOk result (IsBegun (map entry_seen records.now) (last_of (journal_of self.old)) (row_in head.now) begin.now (records_of F.folder (journal_of self.old)) (records_of F.folder (journal_of self.new))) }
-        ensures gone_on { OnOk result (GoneOn T.turn T.stands (row_in head.now) begin.now (map entry_seen records.now) (run_of self.old) self.new out.old.items out.new.items) }
+        ensures records { OnOk result (IsBegun (map entry_seen records.now) (last_of (journal_of self.old)) (row_in head.now) begin.now
+            (records_of F.folder (journal_of self.old)) (records_of F.folder (journal_of self.new))) }
+        ensures gone_on { OnOk result (GoneOn T.turn T.stands (row_in head.now) begin.now (map entry_seen records.now)
+            (run_of self.old) self.new out.old.items out.new.items) }
         ensures front { front_of self.new ≡ front_of self.old }
         ensures kept { OnErr result (out.new.items ≡ out.old.items) }
-        ensures any_moment { LeavesSince F.moment F.left_since (folder_of (journal_of self.old)) (folder_of (journal_of self.new)) (IsLeftBegun (F.folder (folder_of (journal_of self.old))) (map entry_seen records.now) (last_of (journal_of self.old)) (row_in head.now) begin.now) }
+        ensures any_moment { LeavesSince F.moment F.left_since (folder_of (journal_of self.old)) (folder_of (journal_of self.new))
+            (IsLeftBegun (F.folder (folder_of (journal_of self.old))) (map entry_seen records.now) (last_of (journal_of self.old))
+            (row_in head.now) begin.now) }
     {
         match records.first() {
             Some(first) => self.go_on(first, records, head, out),
@@ -296,10 +321,12 @@ impl<F: JournalFolder, T: LineTaker> Live<F, T> {
         requires settled { IsOpen F.folder (journal_of self.old) }
         requires position { is_position begin.now ≡ true }
         ensures settled { OnOk result (IsOpen F.folder (journal_of self.new)) }
-        ensures records { OnOk result (IsBegun [] (last_of (journal_of self.old)) (row_in head.now) begin.now (records_of F.folder (journal_of self.old)) (records_of F.folder (journal_of self.new))) }
+        ensures records { OnOk result (IsBegun [] (last_of (journal_of self.old)) (row_in head.now) begin.now (records_of F.folder (journal_of self.old))
+            (records_of F.folder (journal_of self.new))) }
         ensures gone_on { (text : List ℕ) → OnOk result (GoneOn T.turn T.stands (row_in head.now) begin.now [] (run_of self.old) self.new text text) }
         ensures front { front_of self.new ≡ front_of self.old }
-        ensures any_moment { LeavesSince F.moment F.left_since (folder_of (journal_of self.old)) (folder_of (journal_of self.new)) (HasOneMore (F.folder (folder_of (journal_of self.old))) (entry_behind (last_of (journal_of self.old)) 0 (row_in head.now) begin.now)) }
+        ensures any_moment { LeavesSince F.moment F.left_since (folder_of (journal_of self.old)) (folder_of (journal_of self.new))
+            (HasOneMore (F.folder (folder_of (journal_of self.old))) (entry_behind (last_of (journal_of self.old)) 0 (row_in head.now) begin.now)) }
     {
         let row = head.bytes();
         self.journal.append(0, row, begin)?;
@@ -320,8 +347,11 @@ impl<F: JournalFolder, T: LineTaker> Live<F, T> {
         requires settled { IsOpen F.folder (journal_of self.old) }
         requires first { Some first.now ≡ slice_get records.now 0 }
         ensures settled { OnOk result (IsOpen F.folder (journal_of self.new)) }
-        ensures records { (begin : List ℕ) → OnOk result (IsBegun (map entry_seen records.now) (last_of (journal_of self.old)) (row_in head.now) begin (records_of F.folder (journal_of self.old)) (records_of F.folder (journal_of self.new))) }
-        ensures gone_on { (begin : List ℕ) → OnOk result (GoneOn T.turn T.stands (row_in head.now) begin (map entry_seen records.now) (run_of self.old) self.new out.old.items out.new.items) }
+        ensures records { (begin : List ℕ) →
+            OnOk result (IsBegun (map entry_seen records.now) (last_of (journal_of self.old)) (row_in head.now) begin
+            (records_of F.folder (journal_of self.old)) (records_of F.folder (journal_of self.new))) }
+        ensures gone_on { (begin : List ℕ) →
+            OnOk result (GoneOn T.turn T.stands (row_in head.now) begin (map entry_seen records.now) (run_of self.old) self.new out.old.items out.new.items) }
         ensures front { front_of self.new ≡ front_of self.old }
         ensures kept { OnErr result (out.new.items ≡ out.old.items) }
         ensures journal { journal_of self.new ≡ journal_of self.old }
@@ -350,11 +380,16 @@ impl<F: JournalFolder, T: LineTaker> Live<F, T> {
         requires settled { IsOpen F.folder (journal_of self.old) }
         requires position { is_position position.now ≡ true }
         ensures settled { OnOk result (IsOpen F.folder (journal_of self.new)) }
-        ensures records { OnOk result (records_of F.folder (journal_of self.new) ≡ option_map (λ es. es ++ entry_behind (last_of (journal_of self.old)) (length (ended_lines text.now)) (rows_of_text text.now) position.now ∷ []) (records_of F.folder (journal_of self.old))) }
-        ensures takes { OnOk result (Took T.turn T.stands (kept_lines (longest_of (run_of self.old)) (ended_lines text.now)) (run_of self.old) (run_of self.new) out.old.items out.new.items) }
+        ensures records { OnOk result (records_of F.folder (journal_of self.new)
+            ≡ option_map (λ es. es ++ entry_behind (last_of (journal_of self.old)) (length (ended_lines text.now)) (rows_of_text text.now) position.now ∷ [])
+            (records_of F.folder (journal_of self.old))) }
+        ensures takes { OnOk result (Took T.turn T.stands (kept_lines (longest_of (run_of self.old)) (ended_lines text.now)) (run_of self.old)
+            (run_of self.new) out.old.items out.new.items) }
         ensures longest { longest_of (run_of self.new) ≡ longest_of (run_of self.old) }
         ensures kept { OnErr result (out.new.items ≡ out.old.items) }
-        ensures any_moment { LeavesSince F.moment F.left_since (folder_of (journal_of self.old)) (folder_of (journal_of self.new)) (HasOneMore (F.folder (folder_of (journal_of self.old))) (entry_behind (last_of (journal_of self.old)) (length (ended_lines text.now)) (rows_of_text text.now) position.now)) }
+        ensures any_moment { LeavesSince F.moment F.left_since (folder_of (journal_of self.old)) (folder_of (journal_of self.new))
+            (HasOneMore (F.folder (folder_of (journal_of self.old)))
+            (entry_behind (last_of (journal_of self.old)) (length (ended_lines text.now)) (rows_of_text text.now) position.now)) }
         ensures front { front_of self.new ≡ front_of self.old }
         ensures position { OnOk result (position_of self.new ≡ position.now) }
         ensures count { IfOk result (λ count. count ≡ length (ended_lines text.now)) }
@@ -376,11 +411,15 @@ impl<F: JournalFolder, T: LineTaker> Live<F, T> {
     pub fn cut(&mut self, alloc: Global) -> Result<bool, ReplaceError>
         requires settled { IsOpen F.folder (journal_of self.old) }
         ensures settled { OnOk result (IsOpen F.folder (journal_of self.new)) }
-        ensures cut { IfOk result (λ is_cut. is_cut ≡ true → IsCut T.turn T.stands T.states self.old (records_of F.folder (journal_of self.old)) (records_of F.folder (journal_of self.new))) }
+        ensures cut { IfOk result (λ is_cut. is_cut ≡ true →
+            IsCut T.turn T.stands T.states self.old (records_of F.folder (journal_of self.old)) (records_of F.folder (journal_of self.new))) }
         ensures uncut { IfOk result (λ is_cut. is_cut ≡ false → records_of F.folder (journal_of self.new) ≡ records_of F.folder (journal_of self.old)) }
         ensures still { OnOk result (IsStill T.turn T.stands (run_of self.old) (run_of self.new)) }
-        ensures kept { IfErr result (λ e. is_kept e ≡ true → IsOpen F.folder (journal_of self.new) × (records_of F.folder (journal_of self.new) ≡ records_of F.folder (journal_of self.old)) × IsStill T.turn T.stands (run_of self.old) (run_of self.new)) }
-        ensures any_moment { LeavesSince F.moment F.left_since (folder_of (journal_of self.old)) (folder_of (journal_of self.new)) (IsLeftOrCut T.turn T.stands T.states self.old (F.folder (folder_of (journal_of self.old)))) }
+        ensures kept { IfErr result (λ e. is_kept e ≡ true →
+            IsOpen F.folder (journal_of self.new) × (records_of F.folder (journal_of self.new) ≡ records_of F.folder (journal_of self.old))
+            × IsStill T.turn T.stands (run_of self.old) (run_of self.new)) }
+        ensures any_moment { LeavesSince F.moment F.left_since (folder_of (journal_of self.old)) (folder_of (journal_of self.new))
+            (IsLeftOrCut T.turn T.stands T.states self.old (F.folder (folder_of (journal_of self.old)))) }
         ensures failed { IfErr result (IsCaused (F.has_failed (folder_of (journal_of self.new)))) }
         ensures longest { longest_of (run_of self.new) ≡ longest_of (run_of self.old) }
         ensures front { front_of self.new ≡ front_of self.old }

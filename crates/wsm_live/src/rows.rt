@@ -11,7 +11,8 @@ use std::alloc::AllocError;
 
 /// Where the first line of a text ends, if it has ended.
 pub fn line_end(text: &[u8]) -> Option<usize>
-    ensures { MatchOption result (ended_lines text.now ≡ []) (λ end. (end < length text.now) × (ended_lines text.now ≡ take end text.now ∷ ended_lines (drop (end + 1) text.now))) }
+    ensures { MatchOption result (ended_lines text.now ≡ [])
+        (λ end. (end < length text.now) × (ended_lines text.now ≡ take end text.now ∷ ended_lines (drop (end + 1) text.now))) }
 {
     memchr(b'\n', text)
 }

@@ -52,7 +52,8 @@ pub trait LineTaker: Drop {
     /// Memory was refused.
     fn save(&mut self, text: &mut Vec<u8>) -> Result<bool, AllocError>
         ensures stands { (by : By) (before : List (List ℕ)) → stands self.old by before → OnOk result (stands self.new by before) }
-        ensures states { (by : By) (before : List (List ℕ)) → stands self.old by before → IfOk result (λ is_said. is_said ≡ true → states (drop (length text.old.items) text.new.items) by before) }
+        ensures states { (by : By) (before : List (List ℕ)) → stands self.old by before →
+            IfOk result (λ is_said. is_said ≡ true → states (drop (length text.old.items) text.new.items) by before) }
         ensures grows { OnOk result (take (length text.old.items) text.new.items ≡ text.old.items) };
 
     /// Goes on from such a text, where no line was taken: what it says counts as taken. None where it can't be read.
@@ -151,7 +152,8 @@ impl<T: LineTaker> LiveRun<T> {
     ///
     /// Memory was refused.
     pub fn resume(self, row: &[u8]) -> Result<Option<LiveRun<T>>, AllocError>
-        ensures behind { (by : T.By) (before : List (List ℕ)) → IsBehind T.turn T.stands self by [] → StandsFor T.turn T.states by before row.now → IfOk result (λ o. IfSome o (λ run. IsBehind T.turn T.stands run by before)) }
+        ensures behind { (by : T.By) (before : List (List ℕ)) → IsBehind T.turn T.stands self by [] → StandsFor T.turn T.states by before row.now →
+            IfOk result (λ o. IfSome o (λ run. IsBehind T.turn T.stands run by before)) }
         ensures readable { IfOk result (λ o. IfSome o (λ _. is_readable row.now ≡ true)) }
         ensures longest { IfOk result (λ o. IfSome o (λ run. longest_of run ≡ longest_of self)) }
     {
@@ -166,7 +168,8 @@ impl<T: LineTaker> LiveRun<T> {
 
     // The same from a row that was read.
     fn resume_cut(self, cut: &CutRow<'_>) -> Result<Option<LiveRun<T>>, AllocError>
-        ensures behind { (by : T.By) (before : List (List ℕ)) → IsBehind T.turn T.stands self by [] → CutStates T.turn T.states by before (cut_seen cut.now) → IfOk result (λ o. IfSome o (λ run. IsBehind T.turn T.stands run by before)) }
+        ensures behind { (by : T.By) (before : List (List ℕ)) → IsBehind T.turn T.stands self by [] → CutStates T.turn T.states by before (cut_seen cut.now) →
+            IfOk result (λ o. IfSome o (λ run. IsBehind T.turn T.stands run by before)) }
         ensures longest { IfOk result (λ o. IfSome o (λ run. longest_of run ≡ longest_of self)) }
     {
         match self.taker.resume(cut.text)? {
@@ -203,7 +206,8 @@ impl<T: LineTaker> LiveRun<T> {
     ///
     /// Memory was refused, or 2^64 - 1 lines were written. Nothing was added then.
     pub fn take_all(&mut self, chunks: &[Record<'_>], out: &mut Vec<u8>) -> Result<(), AllocError>
-        ensures takes { OnOk result (Took T.turn T.stands (chunk_lines (longest_of self.old) (map entry_seen chunks.now)) self.old self.new out.old.items out.new.items) }
+        ensures takes { OnOk result (Took T.turn T.stands
+            (chunk_lines (longest_of self.old) (map entry_seen chunks.now)) self.old self.new out.old.items out.new.items) }
         ensures longest { longest_of self.new ≡ longest_of self.old }
         ensures kept { OnErr result (out.new.items ≡ out.old.items) }
     {
@@ -219,7 +223,8 @@ impl<T: LineTaker> LiveRun<T> {
 
     // The same, where a part may have been added.
     fn take_each(&mut self, chunks: &[Record<'_>], out: &mut Vec<u8>) -> Result<(), AllocError>
-        ensures takes { OnOk result (Took T.turn T.stands (chunk_lines (longest_of self.old) (map entry_seen chunks.now)) self.old self.new out.old.items out.new.items) }
+        ensures takes { OnOk result (Took T.turn T.stands
+            (chunk_lines (longest_of self.old) (map entry_seen chunks.now)) self.old self.new out.old.items out.new.items) }
         ensures longest { longest_of self.new ≡ longest_of self.old }
         ensures grows { take (length out.old.items) out.new.items ≡ out.old.items }
     {
@@ -233,7 +238,8 @@ impl<T: LineTaker> LiveRun<T> {
 
     // Takes the lines of rows.
     fn take_rows(&mut self, rows: &[u8]) -> Result<(), AllocError>
-        ensures takes { OnOk result (Took T.turn T.stands (read_lines (longest_of self.old) rows.now) self.old self.new self.old.told.items self.new.told.items) }
+        ensures takes { OnOk result (Took T.turn T.stands
+            (read_lines (longest_of self.old) rows.now) self.old self.new self.old.told.items self.new.told.items) }
         ensures longest { longest_of self.new ≡ longest_of self.old }
     {
         let mut rest = rows;

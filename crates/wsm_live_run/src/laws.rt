@@ -11,5 +11,6 @@ ghost use Rattle.wsm_live_run.specs.Turns.{text_of, turn_by};
 
 /// The lines that are handed out, one behind the other, are what a run over the whole log writes in front of its end.
 pub fn same_text()
-    ensures { (s : Source) (clocks : Option Clocks) (p : Program) (lines : List (List ℕ)) → text_of (told (turn_by s clocks p) lines) ≡ turns_text (query_of p) clocks (said s clocks p.header.schema lines) }
+    ensures { (s : Source) (clocks : Option Clocks) (p : Program) (lines : List (List ℕ)) →
+        text_of (told (turn_by s clocks p) lines) ≡ turns_text (query_of p) clocks (said s clocks p.header.schema lines) }
 {}

@@ -57,7 +57,8 @@ impl<R: Read + Drop> Lines<R> {
     ///
     /// A read failed, or 2^64 - 1 lines and reads were counted. A line that was read in part is lost.
     pub fn advance(&mut self) -> Result<bool, ReadFailed>
-        ensures advances { (longest : ℕ) (known : Option (List ℕ)) (lines : List (List ℕ)) → Follows longest R.remaining known lines self.old → Advances longest R.remaining known lines self.new result }
+        ensures advances { (longest : ℕ) (known : Option (List ℕ)) (lines : List (List ℕ)) → Follows longest R.remaining known lines self.old →
+            Advances longest R.remaining known lines self.new result }
         ensures counts { result ≡ Ok true → turns_left self.new < turns_left self.old }
         ensures ends { result ≢ Ok true → ending_of self.new ≡ Some result }
         ensures ended { IfSome (ending_of self.old) (λ ending. result ≡ ending) }

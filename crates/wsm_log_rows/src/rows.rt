@@ -173,8 +173,10 @@ pub fn write_rows<R: Read + Drop, D: Device>(
     out: &mut D,
 ) -> Result<(), LogEnd>
     requires { D.has_failed out.old ≡ false }
-    ensures written { IfOk result (λ _. (lines : List (List ℕ)) × RowsWritten (R.remaining reader) source schema.now (D.taken out.old) (D.taken out.new) lines) }
-    ensures broken { IfErr result (λ end. (lines : List (List ℕ)) × RowsEnd (R.remaining reader) source schema.now (D.taken out.old) (D.taken out.new) lines end) }
+    ensures written { IfOk result (λ _. (lines : List (List ℕ))
+        × RowsWritten (R.remaining reader) source schema.now (D.taken out.old) (D.taken out.new) lines) }
+    ensures broken { IfErr result (λ end. (lines : List (List ℕ))
+        × RowsEnd (R.remaining reader) source schema.now (D.taken out.old) (D.taken out.new) lines end) }
     ensures flushed { OnOk result (D.is_flushed out.new ≡ true) }
     ensures write_failed { result ≡ Err LogEnd.WriteFailed → D.has_failed out.new ≡ true }
 {

@@ -125,7 +125,8 @@ fn advance(
 ) -> Result<Option<Cursor>, AllocError>
     requires inside { i < length line.now }
     requires begun { cursor.start ≤ i }
-    ensures row { IfOk result (λ next. option_map (λ c. row_seen line.now (i + 1) c spans.new.items) next ≡ advanced separator (row_seen line.now i cursor spans.old.items) (slice_index line.now i)) }
+    ensures row { IfOk result (λ next. option_map (λ c. row_seen line.now (i + 1) c spans.new.items) next
+        ≡ advanced separator (row_seen line.now i cursor spans.old.items) (slice_index line.now i)) }
     ensures begun { IfOk result (λ next. IfSome next (λ c. c.start ≤ i + 1)) }
 {
     match move_of(separator, cursor.spot, line[i]) {
@@ -150,7 +151,8 @@ fn advance(
 
 // The row that ends at a place, and whether it is one.
 fn finish(cursor: Cursor, end: usize, spans: &mut Vec<Span>) -> Result<bool, AllocError>
-    ensures { IfOk result (λ whole. (line : List ℕ) → finished (row_seen line end cursor spans.old.items) cursor.spot ≡ only_if whole (texts_of line spans.new.items)) }
+    ensures { IfOk result (λ whole. (line : List ℕ) →
+        finished (row_seen line end cursor spans.old.items) cursor.spot ≡ only_if whole (texts_of line spans.new.items)) }
 {
     match cursor.spot {
         Spot::Quoted => Ok(false),

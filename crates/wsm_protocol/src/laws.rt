@@ -17,5 +17,6 @@ pub fn exactly_once()
 pub fn comes_to_all()
     ensures nearer { (r : Run) (events : List Event) (e : Event) → IsRun r → GoesOn e →
         (happens r (after_all r events) e ≡ after_all r events) ⊎ IsLess (rank (happens r (after_all r events) e)) (rank (after_all r events)) }
-    ensures whole { (r : Run) (events : List Event) → IsRun r → IsStill r (after_all r events) → (after_all r events).table ≡ r.told (log_of (after_all r events)) }
+    ensures whole { (r : Run) (events : List Event) → IsRun r → IsStill r (after_all r events) →
+        (after_all r events).table ≡ r.told (log_of (after_all r events)) }
 {}

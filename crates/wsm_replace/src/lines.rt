@@ -135,7 +135,8 @@ impl<I: Read + Drop> WholeLines<I> {
     // Takes so many bytes that were read, and answers whether that is all for now.
     fn take(&mut self, count: usize) -> Result<bool, LinesFault>
         requires { count ≤ length self.old.chunk.items }
-        ensures taken { OnOk result (self.new.lines.items ++ self.new.begun.items ≡ self.old.lines.items ++ (self.old.begun.items ++ take count self.old.chunk.items)) }
+        ensures taken { OnOk result (self.new.lines.items ++ self.new.begun.items ≡ self.old.lines.items
+            ++ (self.old.begun.items ++ take count self.old.chunk.items)) }
         ensures none { IfOk result (λ is_all. is_all ≡ false → self.new.lines.items ≡ self.old.lines.items) }
         ensures same { (self.new.given ≡ self.old.given) × (self.new.input ≡ self.old.input) }
     {

@@ -250,7 +250,8 @@ fn restore_standing(alloc: Global, from: &mut Restoring<'_>) -> Result<Option<St
 
 // Has records wait that are by time, where none waits yet and there is room for them.
 fn wait_all(waiting: &mut Waiting, rows: &[Row]) -> Result<(), AllocError>
-    ensures { (c : AnyClocks) (count told : ℕ) (stamps : List AnyStamp) → AreByTime (map row_of rows.now) → length rows.now ≤ c.room → Hears c count waiting.old stamps told [] →
+    ensures { (c : AnyClocks) (count told : ℕ) (stamps : List AnyStamp) → AreByTime (map row_of rows.now) → length rows.now ≤ c.room →
+        Hears c count waiting.old stamps told [] →
         OnOk result (Hears c count waiting.new stamps told (map row_of rows.now)) }
 {
     for row in rows {
@@ -268,7 +269,8 @@ fn resume_waiting(
 ) -> Result<Option<Waiting>, AllocError>
     requires clocks { IsClocks clocks }
     requires count { count ≤ MOST_CLOCKS }
-    ensures { (was : AnyWaiting) (stamps : List AnyStamp) (told : ℕ) (waits : List (AnyTimed Numbered)) → Hears clocks count was stamps told waits → WaitingFits was → standing_of standing ≡ stand_of was →
+    ensures { (was : AnyWaiting) (stamps : List AnyStamp) (told : ℕ) (waits : List (AnyTimed Numbered)) → Hears clocks count was stamps told waits →
+        WaitingFits was → standing_of standing ≡ stand_of was →
         IfOk result (λ o. IfSome o (λ new. Hears clocks count new stamps told waits)) }
 {
     if standing.said.len() != count {

@@ -40,7 +40,8 @@ fn save_known(names: &ClockNames, out: &mut Vec<u8>) -> Result<(), AllocError>
 ///
 /// Memory was refused. A part may have been added.
 pub fn save_names(names: &Option<ClockNames>, out: &mut Vec<u8>) -> Result<(), AllocError>
-    ensures text { (named : Option ℕ) (list : List (List ℕ)) → Knows named names.now list → OnOk result (out.new.items ≡ out.old.items ++ names_text named list) }
+    ensures text { (named : Option ℕ) (list : List (List ℕ)) → Knows named names.now list →
+        OnOk result (out.new.items ≡ out.old.items ++ names_text named list) }
     ensures fits { (named : Option ℕ) (list : List (List ℕ)) → Knows named names.now list → OnOk result (NamesFit list) }
 {
     match names {

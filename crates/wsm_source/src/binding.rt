@@ -91,8 +91,10 @@ fn identifier_place(
     description: &Description,
     declared: &[DeclaredField],
 ) -> Result<Option<Place>, Refusal>
-    ensures ok { IfOk result (λ place. place_if description.now.format (identifier_column (map field_seen declared.now)) (codes "identifier") description.now.identifier ≡ Ok place) }
-    ensures fault { IfErr result (λ r. (r ≡ Refusal.Memory) ⊎ (place_if description.now.format (identifier_column (map field_seen declared.now)) (codes "identifier") description.now.identifier ≡ Err r)) }
+    ensures ok { IfOk result (λ place. place_if description.now.format (identifier_column (map field_seen declared.now))
+        (codes "identifier") description.now.identifier ≡ Ok place) }
+    ensures fault { IfErr result (λ r. (r ≡ Refusal.Memory)
+        ⊎ (place_if description.now.format (identifier_column (map field_seen declared.now)) (codes "identifier") description.now.identifier ≡ Err r)) }
 {
     let column = identifier_column(declared);
     let at = identifier_said(&description.identifier);
@@ -105,8 +107,11 @@ fn clock_place(
     description: &Description,
     declared: &[DeclaredField],
 ) -> Result<Option<Place>, Refusal>
-    ensures ok { IfOk result (λ place. place_if description.now.format (clock_column description.now.identifier (map field_seen declared.now)) (codes "clock") (clock_said description.now.clock) ≡ Ok place) }
-    ensures fault { IfErr result (λ r. (r ≡ Refusal.Memory) ⊎ (place_if description.now.format (clock_column description.now.identifier (map field_seen declared.now)) (codes "clock") (clock_said description.now.clock) ≡ Err r)) }
+    ensures ok { IfOk result (λ place. place_if description.now.format (clock_column description.now.identifier (map field_seen declared.now)) (codes "clock")
+        (clock_said description.now.clock) ≡ Ok place) }
+    ensures fault { IfErr result (λ r. (r ≡ Refusal.Memory)
+        ⊎ (place_if description.now.format (clock_column description.now.identifier (map field_seen declared.now)) (codes "clock")
+        (clock_said description.now.clock) ≡ Err r)) }
 {
     let column = clock_column(&description.identifier, declared);
     let at = clock_said(&description.clock);
