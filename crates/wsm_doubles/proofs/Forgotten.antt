@@ -78,9 +78,6 @@ module _ (c : Clock) (shape : Shape) where
     prompt = live-live later later (at_most later) memory;
   }
 
-  pub answers : (mark : ℤ) (kept : Kept) (memory : Memory) (i : List ℕ) → Recalls c shape mark kept memory → is_known c shape mark i kept ≡ knows i memory
-  answers mark kept memory i r = r.alike mark (at_most mark) i ∙ ap (knows i) r.prompt
-
   in_front : (i : List ℕ) (b : Bool) (k : List ℕ × ℤ) (xs ys : Memory) → knows i xs ≡ knows i ys → knows i (cond b (k ∷ xs) xs) ≡ knows i (cond b (k ∷ ys) ys)
   in_front i true k xs ys same = ap (λ (b : Bool). bytes_eq i k.0 || b) same
   in_front i false k xs ys same = same

@@ -1,7 +1,7 @@
 -- Bytes behind the others change no identifier in front of them.
 use Rattle.std.proofs.Common.{◌≡◌, ℕ, ◌≤◌, List, [], ◌∷◌, ◌++◌, length, Result, Ok, Err, sym, ap, ◌∙◌, arith}
-use Rattle.std.proofs.lemmas.List.{drop_at, length-append, map-append, take-append-le}
-use Rattle.std.proofs.lemmas.List.Elements.{All-push, All-weaker, recursion_from_All}
+use Rattle.std.proofs.lemmas.List.{drop_at, map-append, take-append-le}
+use Rattle.std.proofs.lemmas.List.Elements.{All-weaker, recursion_from_All}
 use Rattle.std.proofs.lemmas.Slice.{between_is, between_to_end}
 use Rattle.std.specs.Prelude.{OnErr, drop, slice_range}
 use Rattle.std.specs.List.{All}
@@ -24,16 +24,10 @@ module _ (texts more : List ℕ) where
   entry_stays : (s : Spot) → Lies texts s → entry_at (texts ++ more) s ≡ entry_at texts s
   entry_stays s lies = λ i. (range_stays s.start s.end lies.1 i, s.time)
 
-  lies_still : (s : Spot) → Lies texts s → Lies (texts ++ more) s
-  lies_still s lies = (lies.0, omega (arith, lies.1, length-append texts more))
-
   pub entries_stay : (spots : List Spot) → All (Lies texts) spots → entries_of (texts ++ more) spots ≡ entries_of texts spots
   entries_stay spots lie =
       map-each (entry_at (texts ++ more)) (entry_at texts) spots
       (recursion_from_All (λ s. entry_at (texts ++ more) s ≡ entry_at texts s) spots (All-weaker (Lies texts) (λ s. entry_at (texts ++ more) s ≡ entry_at texts s) entry_stays spots lie))
-
-  pub all_lie : (spots : List Spot) → All (Lies texts) spots → All (Lies (texts ++ more)) spots
-  all_lie spots lie = All-weaker (Lies texts) (Lies (texts ++ more)) lies_still spots lie
 
 -- a text behind the others, at its spot
 module _ (texts text : List ℕ) (spots : List Spot) (lie : All (Lies texts) spots) (spot : Spot) (from : spot.start ≡ length texts) (to : spot.end ≡ length (texts ++ text)) where
@@ -46,6 +40,3 @@ module _ (texts text : List ℕ) (spots : List Spot) (lie : All (Lies texts) spo
   entry_added =
       map-append (entry_at (texts ++ text)) spots (spot ∷ [])
       ∙ (λ i. entries_stay texts text spots lie i ++ (text_there i, spot.time) ∷ [])
-
-  pub spot_added : All (Lies (texts ++ text)) (spots ++ spot ∷ [])
-  spot_added = All-push (Lies (texts ++ text)) spots spot (all_lie texts text spots lie) (omega (arith, from, to, length-append texts text), omega (arith, to))

@@ -96,9 +96,6 @@ module _ (c : Clock) (shape : Shape) (mark : ℤ) (identifier : List ℕ) (entri
         | inr other ↦ apart t hash i hashed is below other
       ]))
 
-  pub nothing : entries ≡ [] → false ≡ knows identifier (live c shape mark entries)
-  nothing none = ap (λ (es : Memory). knows identifier (live c shape mark es)) (sym none)
-
 -- ---- one entry
 
 module _ (c : Clock) (shape : Shape) (mark : ℤ) (identifier : List ℕ) (entries inside : Memory) (same : inside ≡ entries) (number : ℕ) where

@@ -4,7 +4,6 @@ use Rattle.std.specs.Prelude.{Option, Some, None, codes, nat_le}
 use Rattle.std.specs.List.{list_all}
 use Rattle.std.proofs.lemmas.Bool.{and_from, and_parts}
 use Rattle.std.proofs.lemmas.Bool.Decides.{leb_tells}
-use Rattle.std.proofs.Math.Dec.{leb-zero}
 use Rattle.wsm_record.specs.declared.limits.TheConstants.{MAX_CHAIN, MAX_LEVELS}
 use Rattle.wsm_record.specs.declared.words.Kind.{Kind}
 use Rattle.wsm_record.specs.Name.{is_name}
@@ -102,9 +101,6 @@ looser_rule {n} {rule} r = record { law = λ ts p. by_read (rule ts) (r.law ts p
     by_read : (r : Read Expr) → Made (Tight (suc n)) r → Made (Tight n) r
     by_read (Took e rest) h = (looser n e h.0, h.1)
     by_read (Stopped f) h = tt
-
-loose : (e : Expr) → is_told e ≡ true → Tight 0 e
-loose e h = record { told = h; tight = leb-zero (bond e) }
 
 -- the rules one level deeper
 record MakesAt (d : Deeper) : Type 0 where

@@ -5,9 +5,6 @@ use Rattle.wsm_admission.specs.Admission.{counter}
 pub one_more_fault : (a n : ℕ) → a ≡ counter n → counter (a + 1) ≡ counter (n + 1)
 one_more_fault a n h = omega arith
 
-pub faults_and_refused : (a b m n : ℕ) → a ≡ counter m → b ≡ counter n → counter (a + b) ≡ counter (m + n)
-faults_and_refused a b m n h k = omega arith
-
 pub one_more : (n : ℕ) → n + 1 ≡ suc n
 one_more n = omega arith
 

@@ -1,16 +1,13 @@
 -- Sessions key by key, as times come, and their first times.
-use Rattle.std.proofs.Common.{◌≡◌, ℕ, zero, suc, ◌+◌, ◌<◌, drop, Bool, true, false, cond, List, [], ◌∷◌, ◌++◌, map, length, ℤ, pos, ◌+ℤ◌, ◌-ℤ◌, Option, Some, None, refl, sym, ap, subst, ◌∙◌, arith}
+use Rattle.std.proofs.Common.{◌≡◌, ℕ, zero, suc, ◌+◌, drop, Bool, true, false, cond, List, [], ◌∷◌, ◌++◌, map, ℤ, pos, ◌+ℤ◌, ◌-ℤ◌, Option, Some, None, refl, sym, ap, ◌∙◌, arith}
 use Rattle.std.proofs.lemmas.Int.{ints}
-use Rattle.std.proofs.lemmas.Bool.{eqb-true}
-use Rattle.std.proofs.lemmas.Bool.Decides.{nat_tests}
 use Rattle.std.proofs.lemmas.Option.{slice_get-map, same_Some, slice_get_within, get_or_from_slice_get}
 use Rattle.std.proofs.lemmas.List.{drop_more}
 use Rattle.wsm_windows.specs.declared.window.Window.{Window}
-use Rattle.std.specs.Prelude.{nat_eq, option_map, unwrap_or, set, slice_get}
+use Rattle.std.specs.Prelude.{option_map, unwrap_or, slice_get}
 use Rattle.wsm_sessions.specs.Live.{Live, Fits}
 use Rattle.wsm_semantics.specs.FromWatermark.{is_beside, unparted_time}
 use Rattle.wsm_semantics.specs.Sessions.{sessions}
-use Rattle.wsm_keep.specs.declared.what.What.TheVariants.{Selected}
 use Rattle.wsm_keep.specs.declared.firsts.Firsts.{Firsts}
 use Rattle.wsm_keep.specs.Holds.{Queued, times_in}
 use Rattle.wsm_keep.specs.Items.{times_of}
@@ -21,36 +18,6 @@ none_more gap [] s none is fits zero = (is, fits)
 none_more gap [] s none is fits (suc key) = refl
 none_more gap (x ∷ keys) s none is fits zero = none zero
 none_more gap (x ∷ keys) s none is fits (suc key) = none_more gap keys s (λ k. none (suc k)) is fits key
-
-one_less : (a b : ℕ) → nat_eq (suc a) (suc b) ≡ false → nat_eq a b ≡ false
-one_less a b h = grind (arith, nat_tests)
-
-same_zero : nat_eq 0 0 ≡ false → ⊥
-same_zero h = grind (arith, nat_tests)
-
-set_there : {A : Type 0} (xs : List A) (k : ℕ) (x : A) → k < length xs → slice_get (set xs k x) k ≡ Some x
-set_there [] k x h = absurd (omega (arith, h))
-set_there (y ∷ xs) zero x h = refl
-set_there (y ∷ xs) (suc k) x h = set_there xs k x (omega (arith, h))
-
-set_elsewhere : {A : Type 0} (xs : List A) (k j : ℕ) (x : A) → nat_eq k j ≡ false → slice_get (set xs k x) j ≡ slice_get xs j
-set_elsewhere [] k j x h = refl
-set_elsewhere (y ∷ xs) zero zero x h = absurd (same_zero h)
-set_elsewhere (y ∷ xs) zero (suc j) x h = refl
-set_elsewhere (y ∷ xs) (suc k) zero x h = refl
-set_elsewhere (y ∷ xs) (suc k) (suc j) x h = set_elsewhere xs k j x (one_less k j h)
-
--- a time more of a key
-pub one_more : (gap : ℤ) (keys : List Live) (queue : List Queued) (k : ℕ) (t : ℤ) (text : List ℕ) (s : Live) → k < length keys → s.gap ≡ gap → Fits s (t ∷ times_in k queue) → AreOfKeys gap keys queue → AreOfKeys gap (set keys k s) ((Selected k t, text) ∷ queue)
-one_more gap keys queue k t text s there is fits are key =
-    elim (nat_eq k key) as (λ b. nat_eq k key ≡ b → IsOfTimes gap (slice_get (set keys k s) key) (cond b (t ∷ []) [] ++ times_in key queue)) [
-      | true ↦ λ mine. subst (λ (j : ℕ). IsOfTimes gap (slice_get (set keys k s) j) (t ∷ times_in j queue)) (eqb-true k key mine) (subst (λ (o : Option Live). IsOfTimes gap o (t ∷ times_in k queue)) (sym (set_there keys k s there)) (is, fits))
-      | false ↦ λ apart. subst (λ (o : Option Live). IsOfTimes gap o (times_in key queue)) (sym (set_elsewhere keys k key s apart)) (are key)
-    ] refl
-
--- of a key that has sessions
-pub of_key : (gap : ℤ) (o : Option Live) (s : Live) (times : List ℤ) → o ≡ Some s → IsOfTimes gap o times → (s.gap ≡ gap) × Fits s times
-of_key gap o s times is h = subst (λ (o : Option Live). IsOfTimes gap o times) is h
 
 back : (t : ℤ) → (t +ℤ pos 1) -ℤ pos 1 ≡ t
 back t = omega (arith, ints)

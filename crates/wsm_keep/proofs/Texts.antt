@@ -1,7 +1,7 @@
 -- Texts behind the others change none in front of them.
 use Rattle.std.proofs.Common.{◌≡◌, ℕ, ◌+◌, ◌≤◌, List, [], ◌∷◌, ◌++◌, length, map, reverse, take, refl, sym, ap, ◌∙◌, arith}
-use Rattle.std.proofs.lemmas.List.{drop_at, length-append, map-append, reverse-append, take-append-le}
-use Rattle.std.proofs.lemmas.List.Elements.{All-push, All-weaker, recursion_from_All}
+use Rattle.std.proofs.lemmas.List.{drop_at, map-append, reverse-append, take-append-le}
+use Rattle.std.proofs.lemmas.List.Elements.{All-weaker, recursion_from_All}
 use Rattle.std.proofs.lemmas.Slice.{between_is, between_to_end}
 use Rattle.std.proofs.Math.Seq.{drop-append-add, take-append-add}
 use Rattle.std.specs.Prelude.{drop, slice_range}
@@ -21,17 +21,11 @@ module _ (texts more : List ℕ) where
   item_stays : (i : Item) → Lies texts i → item_of (texts ++ more) i ≡ item_of texts i
   item_stays i lies = λ at. (i.what, range_stays i.start i.end lies.1 at)
 
-  lies_still : (i : Item) → Lies texts i → Lies (texts ++ more) i
-  lies_still i lies = (lies.0, omega (arith, lies.1, length-append texts more))
-
   pub queue_stays : (items : List Item) → All (Lies texts) items → queue_of (texts ++ more) items ≡ queue_of texts items
   queue_stays items lie =
       ap reverse
       (map-each (item_of (texts ++ more)) (item_of texts) items
       (recursion_from_All (λ i. item_of (texts ++ more) i ≡ item_of texts i) items (All-weaker (Lies texts) (λ i. item_of (texts ++ more) i ≡ item_of texts i) item_stays items lie)))
-
-  pub all_lie : (items : List Item) → All (Lies texts) items → All (Lies (texts ++ more)) items
-  all_lie items lie = All-weaker (Lies texts) (Lies (texts ++ more)) lies_still items lie
 
   -- of texts behind the others
   range_behind : (a b : ℕ) → slice_range (texts ++ more) (length texts + a) (length texts + b) ≡ slice_range more a b
@@ -62,6 +56,3 @@ module _ (texts text : List ℕ) (items : List Item) (lie : All (Lies texts) ite
   item_added =
       queue_of-more (texts ++ text) items item
       ∙ (λ i. (item.what, text_there i) ∷ queue_stays texts text items lie i)
-
-  pub item_lies : All (Lies (texts ++ text)) (items ++ item ∷ [])
-  item_lies = All-push (Lies (texts ++ text)) items item (all_lie texts text items lie) (omega (arith, from, to, length-append texts text), omega (arith, to))

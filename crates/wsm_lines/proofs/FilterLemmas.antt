@@ -1,7 +1,6 @@
 -- What passes a filter in which a name was marked.
-use Rattle.std.proofs.Common.{◌≡◌, ◌∙◌, ℕ, ◌<◌, List, [], ◌∷◌, length, Bool, true, false, get_or, set, refl, sym, ap, inl, inr, eq-eqb}
-use Rattle.std.proofs.lemmas.Bool.{and_parts, cases_Bool, eqb-true, eqb-false}
-use Rattle.std.proofs.lemmas.List.{get_or-set_same, get_or-set_other}
+use Rattle.std.proofs.Common.{◌≡◌, ◌∙◌, ℕ, List, [], ◌∷◌, Bool, true, false, refl, eq-eqb}
+use Rattle.std.proofs.lemmas.Bool.{and_parts}
 use Rattle.std.specs.Prelude.{◌==◌, ◌||◌, ◌&&◌, Option, Some, None}
 use Rattle.wsm_lines.specs.Members.{Widens, bucket_of, passes, passes_fields, passes_first, passes_maybe, passes_place}
 use Rattle.wsm_lines.specs.declared.source.Field.{Field}
@@ -12,10 +11,6 @@ or_true : (b c : Bool) → c ≡ true → (b || c) ≡ true
 or_true true c h = refl
 or_true false c h = h
 
-or_false : (b c : Bool) → c ≡ false → (b || c) ≡ b
-or_false true c h = refl
-or_false false c h = h
-
 both : (b c : Bool) → b ≡ true → c ≡ true → (b && c) ≡ true
 both true c first rest = rest
 both false c first rest = first
@@ -23,15 +18,6 @@ both false c first rest = first
 true_or : (b c : Bool) → b ≡ true → (b || c) ≡ true
 true_or true c h = refl
 true_or false c h = cc
-
-get_set : (bs : List Bool) (i n : ℕ) → i < length bs → get_or (set bs i true) n false ≡ (get_or bs n false || n == i)
-get_set bs i n within = elim (cases_Bool (n == i)) [
-  | inl same ↦ ap (λ k. get_or (set bs i true) k false) (eqb-true n i same) ∙ get_or-set_same bs i true false within ∙ sym (or_true (get_or bs n false) (n == i) same)
-  | inr other ↦ get_or-set_other bs i n true false (eqb-false n i other) ∙ sym (or_false (get_or bs n false) (n == i) other)
-]
-
-pub passes_marked : (bs : List Bool) (i at : ℕ) (n : List ℕ) → i ≡ at → i < length bs → passes (set bs i true) n ≡ (passes bs n || bucket_of n == at)
-passes_marked bs i at n is within = get_set bs i (bucket_of n) within ∙ ap (λ k. passes bs n || bucket_of n == k) is
 
 same_bucket : (n : ℕ) → (n == n) ≡ true
 same_bucket n = eq-eqb n n refl

@@ -1,9 +1,8 @@
 -- Rows of lines, one behind another.
-use Rattle.std.proofs.Common.{◌≡◌, ◌∙◌, ◌≤◌, ◌<◌, ◌+◌, ◌==◌, ℕ, zero, suc, List, [], ◌∷◌, ◌++◌, take, drop, length, map, true, false, cond, Option, Some, None, MatchOption, inl, inr, refl, sym, ap, arith, append_assoc, append-nil}
+use Rattle.std.proofs.Common.{◌≡◌, ◌∙◌, ◌<◌, ◌+◌, ◌==◌, ℕ, zero, suc, List, [], ◌∷◌, ◌++◌, take, drop, length, map, true, false, cond, Option, Some, None, MatchOption, inl, inr, refl, sym, ap, arith, append_assoc, append-nil}
 use Rattle.std.proofs.lemmas.Bool.{cases_Bool}
-use Rattle.std.proofs.lemmas.List.{take_all}
 use Rattle.memchr.specs.Find.{IsFirstByte, is_byte}
-use Rattle.wsm_log.specs.LinesOf.{HasNoFeed, kept}
+use Rattle.wsm_log.specs.LinesOf.{HasNoFeed}
 use Rattle.wsm_follow.specs.Ended.{ended_from, ended_lines, kept_lines}
 use Rattle.wsm_follow.proofs.EndedLemmas.{ended-plain}
 use Rattle.wsm_journal.specs.Text.{are_rows, are_rows_from}
@@ -38,11 +37,6 @@ pub ended_none : (text : List ℕ) → IsFirstByte (is_byte 10) text None → en
 ended_none text none = none_part [] text none
 
 -- ---- rows
-
-pub rows_more : (before rows : List ℕ) (line : List ℕ) (lines : List (List ℕ)) → rows ≡ before ++ rows_of (line ∷ []) → rows ++ rows_of lines ≡ before ++ rows_of (line ∷ lines)
-rows_more before rows line lines is =
-    ap (λ (xs : List ℕ). xs ++ rows_of lines) is ∙ append_assoc before (rows_of (line ∷ [])) (rows_of lines)
-    ∙ ap (λ (xs : List ℕ). before ++ 58 ∷ xs) (append_assoc line (10 ∷ []) (rows_of lines))
 
 -- none of these lines has a line feed
 abbrev pub ArePlain : List (List ℕ) → Type 0
@@ -91,17 +85,8 @@ rows_are text = plain_are (ended_lines text) (ended_plain text)
 
 -- ---- parts of lines
 
-pub kept_whole : (longest : ℕ) (line : List ℕ) → length line ≤ longest + 2 → line ≡ kept longest line
-kept_whole longest line short = sym (take_all (longest + 2) line short)
-
 -- where the first line ends, if it has ended
 pub line_ended : (text : List ℕ) (found : Option ℕ) → IsFirstByte (is_byte 10) text found
     → MatchOption found (ended_lines text ≡ []) (λ end. (end < length text) × (ended_lines text ≡ take end text ∷ ended_lines (drop (end + 1) text)))
 line_ended text None none = ended_none text none
 line_ended text (Some end) first = (first.0.high, ended_first text end first)
-
--- one row more of a text
-pub row_more : (old new rest all : List ℕ) (end : ℕ) → old ++ rows_of (ended_lines rest) ≡ all → new ≡ old ++ rows_of (take end rest ∷ [])
-    → ended_lines rest ≡ take end rest ∷ ended_lines (drop (end + 1) rest) → new ++ rows_of (ended_lines (drop (end + 1) rest)) ≡ all
-row_more old new rest all end so_far is first =
-    rows_more old new (take end rest) (ended_lines (drop (end + 1) rest)) is ∙ ap (λ (ls : List (List ℕ)). old ++ rows_of ls) (sym first) ∙ so_far

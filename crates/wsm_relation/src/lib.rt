@@ -29,6 +29,7 @@ pub use order::row_order;
 pub use relation::{Relation, dstream, istream, rstream};
 
 mod changes;
+mod finding;
 mod order;
 mod relation;
 mod rows;

@@ -59,10 +59,6 @@ WroteSome-fits shown text_of Fits old now vs i all wrote few =
 abbrev pub behind : {A : Type 0} → List A → Option (List A × List ℕ) → Option (List A × List ℕ)
 behind xs o = option_map (λ q. (xs ++ q.0, q.1)) o
 
-pub behind-none : {A : Type 0} (o : Option (List A × List ℕ)) → o ≡ behind [] o
-behind-none None = refl
-behind-none (Some q) = refl
-
 behind-more : {A : Type 0} (xs : List A) (x : A) (o : Option (List A × List ℕ)) → behind xs (option_map (λ q. (x ∷ q.0, q.1)) o) ≡ behind (xs ++ x ∷ []) o
 behind-more xs x None = refl
 behind-more xs x (Some q) = ap (λ ys. Some (ys, q.1)) (sym (append_assoc xs (x ∷ []) q.0))
@@ -83,14 +79,6 @@ pub restored_more : {V A : Type 0} (shown : V → A) (read : List ℕ → Option
 restored_more shown read values new v n now left all so_far some is more =
     so_far ∙ read_more read (map shown values) n now left (shown v) some (sym is)
     ∙ ap (λ ys. behind ys (read_some read (n - 1) left)) (sym (ap (map shown) more ∙ map-append shown values (v ∷ [])))
-
-pub read_no_more : {A : Type 0} (read : List ℕ → Option (A × List ℕ)) (xs : List A) (n : ℕ) (now : List ℕ) → 0 < n → read now ≡ None → behind xs (read_some read n now) ≡ None
-read_no_more read xs zero now some is = absurd (omega arith)
-read_no_more read xs (suc n) now some is = ap (λ o. behind xs (option_and_then (λ p. option_map (λ q. (p.0 ∷ q.0, q.1)) (read_some read n p.1)) o)) is
-
-pub read_last : {A : Type 0} (read : List ℕ → Option (A × List ℕ)) (xs : List A) (n : ℕ) (now : List ℕ) → n ≤ 0 → behind xs (read_some read n now) ≡ Some (xs, now)
-read_last read xs zero now none = ap (λ ys. Some (ys, now)) (append-nil xs)
-read_last read xs (suc n) now none = absurd (omega arith)
 
 -- a list that was written is what is read
 pub list_read : {A : Type 0} (text_of : A → List ℕ) (read : List ℕ → Option (A × List ℕ)) (Fits : A → Type 0) → ReadsBack text_of read Fits

@@ -41,9 +41,3 @@ pub with_clocks : (c : Clocks) (count : ℕ) (was : Option Waiting) (stamps : Li
     → Hear (Some c) count was stamps told waits → ClocksFit was → old ≡ clocks_text was ++ rest → IfSome o (λ new. Hears c count new stamps told waits × (left ≡ rest))
 with_clocks c count None stamps told waits rest old left o back hear fits is = absurd hear
 with_clocks c count (Some w) stamps told waits rest old left o back hear fits is = back w hear fits is
-
--- and one without
-pub without_clocks : (count : ℕ) (was : Option Waiting) (stamps : List Stamp) (told : ℕ) (waits : List (Timed Numbered)) (rest old : List ℕ)
-    → Hear None count was stamps told waits → old ≡ clocks_text was ++ rest → Hear None count None stamps told waits × (old ≡ rest)
-without_clocks count None stamps told waits rest old hear is = (hear, is)
-without_clocks count (Some w) stamps told waits rest old hear is = absurd hear

@@ -88,6 +88,7 @@ pub mod LaterLaw
 pub mod LaterKept
 pub mod KeptAlike
 pub mod NeededLive
+pub mod NeededMarks
 pub mod NeededEvents
 pub mod Sums
 pub mod Amounts

@@ -7,7 +7,7 @@ use Rattle.std.specs.Prelude.{nat_lt}
 use Rattle.std.specs.List.{AllByRecursion}
 use Rattle.wsm_windows.specs.Windows.{IsShape}
 use Rattle.wsm_watermarks.specs.declared.held.Timed.{Timed}
-use Rattle.wsm_watermarks.specs.Held.{AreInTime, Item, Mark, Passed, all_passed, last_mark, mark_item, rows_of}
+use Rattle.wsm_watermarks.specs.Held.{Item, Mark, Passed, all_passed, last_mark, mark_item, rows_of}
 use Rattle.wsm_watermarks.proofs.KeptRows.{rows_append}
 use Rattle.wsm_semantics.specs.Query.{Query}
 use Rattle.wsm_doubles.specs.Passing.{SentText, TextDelivery, TextPassing, passing_texts}
@@ -24,11 +24,6 @@ abbrev pub AreBehind : ℕ → List (Item Numbered) → Type 0
 AreBehind told [] = Unit {0}
 AreBehind told (Mark m ∷ is) = (told ≤ m) × AreBehind m is
 AreBehind told (Passed r ∷ is) = (told ≤ r.time) × AreBehind told is
-
-pub behind_in_time : (span told : ℕ) (is : List (Item Numbered)) → AreInTime span told is → AreBehind told is
-behind_in_time span told [] h = tt
-behind_in_time span told (Mark m ∷ is) h = let less = h.0 in (omega (arith, less), behind_in_time span m is h.1)
-behind_in_time span told (Passed r ∷ is) h = (h.0, behind_in_time span told is h.2)
 
 behind-append : (told : ℕ) (is js : List (Item Numbered)) → AreBehind told is → AreBehind (last_mark told is) js → AreBehind told (is ++ js)
 behind-append told [] js h k = k

@@ -5,6 +5,7 @@ pub mod Marks
 mod Tolerance
 mod Plain
 pub mod Served
+mod LastStamps
 mod Tables
 pub mod KeptRows
 pub mod Letting

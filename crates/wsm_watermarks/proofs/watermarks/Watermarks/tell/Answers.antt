@@ -2,7 +2,8 @@ use Rattle.std.proofs.Common.{◌≡◌, ◌≤◌, ◌<◌, ◌∙◌, ◌+◌,
 use Rattle.wsm_watermarks.specs.Agreement.{agreed, behind, raised_by, voices}
 use Rattle.wsm_watermarks.specs.Table.{Sayings, speaking}
 use Rattle.wsm_watermarks.specs.Watermarks.{FitsMarks, Marking}
-use Rattle.wsm_watermarks.proofs.Tables.{behind_low, fits_alike, looked_high, looked_low, fits_put, mark_goes, mark_stays, none_raised, one_raised, same_voices}
+use Rattle.wsm_watermarks.proofs.LastStamps.{fits_put, same_voices}
+use Rattle.wsm_watermarks.proofs.Tables.{behind_low, fits_alike, looked_high, looked_low, mark_goes, mark_stays, none_raised, one_raised}
 use Rattle.wsm_watermarks.proofs.watermarks.Watermarks.tell.Goals as goal
 
 pub returns-then-ahead-self-clause-fits : goal.returns-then-ahead-self-clause-fits

@@ -1,6 +1,6 @@
 use Rattle.std.proofs.Common.{◌-◌, length}
 use Rattle.std.specs.Prelude.{⊤}
-use Rattle.wsm_relation.proofs.steps.place_within.Given as goal
+use Rattle.wsm_relation.proofs.finding.place_within.Given as goal
 
 abbrev pub invariant-loop-high : goal.invariant-loop-high
 invariant-loop-high l = ⊤

@@ -1,7 +1,7 @@
 use Rattle.std.proofs.Common.{◌-◌, ◌≤◌, length}
 use Rattle.wsm_relation.specs.Rows.{passed}
 use Rattle.wsm_relation.specs.Delta.{rows_of, steps_in}
-use Rattle.wsm_relation.proofs.steps.place_among.Given as goal
+use Rattle.wsm_relation.proofs.finding.place_among.Given as goal
 
 -- the rows below `low` stand before the row, and those from `high` on don't
 abbrev pub invariant-loop-low : goal.invariant-loop-low

@@ -7,7 +7,7 @@ use Rattle.wsm_relation.specs.Delta.{row_at, rows_of, steps_in}
 use Rattle.wsm_semantics.proofs.RowOrder.{not_greater}
 use Rattle.wsm_relation.proofs.Places.{passes, stops}
 use Rattle.wsm_relation.proofs.Entries.{length-steps_in, length-rows_of, row_of_step, no_step, step_there}
-use Rattle.wsm_relation.proofs.steps.place_among.Goals as goal
+use Rattle.wsm_relation.proofs.finding.place_among.Goals as goal
 
 pub loop-low-init : goal.loop-low-init
 loop-low-init c = record {

@@ -4,7 +4,7 @@ use Rattle.wsm_relation.specs.Delta.{IsDelta, rows_of, steps_in}
 use Rattle.wsm_relation.proofs.Numbers.{Entry}
 use Rattle.wsm_relation.proofs.Entries.{drop-steps_in}
 use Rattle.wsm_relation.proofs.Merging.{behind-place, number-place, passed-dropped, delta-dropped, some-there}
-use Rattle.wsm_relation.proofs.steps.number_at.Goals as goal
+use Rattle.wsm_relation.proofs.finding.number_at.Goals as goal
 
 pub first_number-requires-clause-delta : goal.first_number-requires-clause-delta
 first_number-requires-clause-delta c =
