@@ -211,7 +211,7 @@ impl Admission {
         &self,
         schema: &Schema,
         shape: &Shape,
-        key: Option<u16>,
+        key: Option<u32>,
         time: i64,
         values_fit: bool,
     ) -> Option<Refusal>
@@ -283,11 +283,11 @@ fn try_watermark(mark: Option<i64>, time: i64) -> Option<Refusal>
 }
 
 // Whether it is the number of a declared key.
-fn is_key(schema: &Schema, key: Option<u16>) -> bool
+fn is_key(schema: &Schema, key: Option<u32>) -> bool
     ensures { result ≡ is_declared_key schema.now key }
 {
     match key {
-        Some(key) => usize::from(key) < schema.key_count(),
+        Some(key) => (key as usize) < schema.key_count(),
         None => false,
     }
 }

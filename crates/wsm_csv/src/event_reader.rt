@@ -20,7 +20,7 @@ use wsm_record::{Event, RowFault, Schema, Value};
 #[derive(Clone, Copy)]
 enum KeyFrom {
     Cell,
-    Number(Option<u16>),
+    Number(Option<u32>),
 }
 
 /// Reads rows as events, each in place of the last. The values of a record are read into the vector of
@@ -83,7 +83,7 @@ impl EventReader {
         &mut self,
         schema: &Schema,
         row: &ByteRecord,
-        key: Option<u16>,
+        key: Option<u32>,
     ) -> Result<(), RowRefusal>
         ensures event { OnOk result (event_as schema.now key (fields_of row.now) ≡ Ok (event_read self.new)) }
         ensures fits { OnOk result (fits_read self.new ≡ fits_declared schema.now (event_read self.new)) }
@@ -197,7 +197,7 @@ fn read_record(
 // Has a record of a key and a time stand there, with the vector of the record that stood there or else
 // the spare one.
 #[inline(always)]
-fn begin_record(event: &mut Event, spare: &mut Vec<Value>, key: Option<u16>, time: i64)
+fn begin_record(event: &mut Event, spare: &mut Vec<Value>, key: Option<u32>, time: i64)
     ensures begun { event_of event.new ≡ Record key time (values_in event.new) }
     ensures room { room_in event.new (vec_capacity spare.new) ≡ room_in event.old (vec_capacity spare.old) }
 {

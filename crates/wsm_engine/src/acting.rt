@@ -66,7 +66,7 @@ pub fn act(
                 values,
             } => {
                 let arrival = Arrival {
-                    key: *key,
+                    key: *key as u16,
                     time: *time,
                     mark,
                 };

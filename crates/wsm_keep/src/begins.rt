@@ -12,7 +12,7 @@ use wsm_semantics::OutRow;
 // The key of a row of a window, and where the window begins.
 #[derive(Clone, Copy)]
 pub(crate) struct Begin {
-    pub(crate) key: u16,
+    pub(crate) key: u32,
     pub(crate) start: i64,
 }
 
@@ -42,11 +42,11 @@ fn begin_of(row: &OutRow) -> Option<Begin>
 {
     match row {
         OutRow::Pane { key, window, .. } => Some(Begin {
-            key: *key,
+            key: u32::from(*key),
             start: window.start,
         }),
         OutRow::Retract { key, window, .. } => Some(Begin {
-            key: *key,
+            key: u32::from(*key),
             start: window.start,
         }),
         _ => None,

@@ -12,10 +12,10 @@ pub struct Firsts {
 
 impl Firsts {
     /// The first time of a key.
-    pub fn of(&self, key: u16) -> i64
+    pub fn of(&self, key: u32) -> i64
         ensures { result ≡ first_of self.now key }
     {
-        match self.each.get(usize::from(key)) {
+        match self.each.get(key as usize) {
             Some(first) => *first,
             None => self.others,
         }

@@ -103,7 +103,7 @@ fn counts_of(alloc: Global, items: &[Item]) -> Result<Vec<usize>, AllocError> {
     let mut counts: Vec<usize> = Vec::new(alloc);
     for item in items {
         if let What::Selected(key, _) = item.what {
-            let key = usize::from(key);
+            let key = key as usize;
             if counts.len() <= key {
                 counts.resize(key + 1, 0)?;
             }
@@ -134,7 +134,7 @@ fn place(keys: &mut Vec<Sessions>, what: What) -> Result<(), AllocError>
     let What::Selected(key, time) = what else {
         return Ok(());
     };
-    let key = usize::from(key);
+    let key = key as usize;
     if keys.len() <= key || !is_time(time) || !keys[key].admits(time) {
         return Err(AllocError);
     }

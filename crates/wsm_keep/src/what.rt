@@ -4,7 +4,7 @@
 #[derive(Clone, Copy, Debug, PartialEq, Eq)]
 pub enum What {
     /// A record of a key, with a time, that is taken and that WHERE selects.
-    Selected(u16, i64),
+    Selected(u32, i64),
     /// A watermark of a source that is accepted.
     Accepted(u16),
     /// Nothing.

@@ -107,7 +107,7 @@ impl NamedEvents {
         ensures kept { (self.new.most ≡ self.old.most) × (self.new.block ≡ self.old.block) }
     {
         self.part = number / self.block;
-        let place = (number % self.block) as u16;
+        let place = number % self.block;
         self.events.read_as(schema, row, Some(place))
     }
 

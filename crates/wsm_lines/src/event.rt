@@ -61,18 +61,18 @@ fn or_other(other: Option<u16>, found: Option<u16>) -> Option<u16>
 }
 
 // The number of the key that a text names.
-fn key_number(names: &KeyNames, schema: &Schema, text: &[u8]) -> Option<u16>
+fn key_number(names: &KeyNames, schema: &Schema, text: &[u8]) -> Option<u32>
     ensures { result ≡ key_number names.now schema.now text.now }
 {
     match names {
         KeyNames::Same => schema.key_number(text),
-        KeyNames::Table(table, other) => or_other(*other, table.number_of(text)),
-        KeyNames::Prefixes(prefixes, other) => or_other(*other, prefixes.number_of(text)),
+        KeyNames::Table(table, other) => or_other(*other, table.number_of(text)).map(u32::from),
+        KeyNames::Prefixes(prefixes, other) => or_other(*other, prefixes.number_of(text)).map(u32::from),
     }
 }
 
 // The key of a line.
-fn key_of(key: &KeyForm, schema: &Schema, taken: &Taken<'_>) -> Result<Option<u16>, LineFault>
+fn key_of(key: &KeyForm, schema: &Schema, taken: &Taken<'_>) -> Result<Option<u32>, LineFault>
     ensures { result ≡ key_of key.now schema.now (taken_seen taken.now) }
 {
     let text = match text_of(
@@ -218,7 +218,7 @@ fn read_values(
 }
 
 // Has a record of a key and a time stand there, with the values that stood there.
-fn begin_record(alloc: Global, event: &mut Event, key: Option<u16>, time: i64)
+fn begin_record(alloc: Global, event: &mut Event, key: Option<u32>, time: i64)
     ensures { event_of event.new ≡ Record key time (values_held event.new) }
 {
     match event {

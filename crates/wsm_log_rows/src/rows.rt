@@ -95,11 +95,11 @@ fn add_unread(why: LineFault, out: &mut Vec<u8>) -> Result<(), AllocError>
 }
 
 // A key's name, or no byte.
-fn key_text(schema: &Schema, key: Option<u16>) -> &[u8]
+fn key_text(schema: &Schema, key: Option<u32>) -> &[u8]
     ensures { result.now ≡ key_text schema.now key }
 {
     match key {
-        Some(key) if (key as usize) < schema.keys().len() => schema.keys().text_of(key),
+        Some(key) if (key as usize) < schema.keys().len() => schema.keys().text_of(key as u16),
         _ => b"",
     }
 }

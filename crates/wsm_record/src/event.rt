@@ -17,7 +17,7 @@ pub enum Event {
     /// A record.
     Record {
         /// The number of its key, or none where the key isn't declared.
-        key: Option<u16>,
+        key: Option<u32>,
         /// When it happened, in event time.
         time: i64,
         /// Its values, in the order of the declared fields.

@@ -199,10 +199,10 @@ impl Schema {
     }
 
     /// The number of the key with these bytes, if it is declared.
-    pub fn key_number(&self, text: &[u8]) -> Option<u16>
+    pub fn key_number(&self, text: &[u8]) -> Option<u32>
         ensures { result ≡ position (bytes_eq text.now) self.now.keys }
     {
-        self.keys.number_of(text)
+        self.keys.number_of(text).map(u32::from)
     }
 
     /// The declared fields, in their order.

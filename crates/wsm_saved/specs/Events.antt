@@ -5,7 +5,7 @@ use Rattle.wsm_record.specs.Event.{Event, Record, Watermark}
 use Rattle.wsm_record.specs.declared.event.Value.{Value}
 use Rattle.wsm_record.specs.declared.event.Value.TheVariants.{Int, Bool, Enum}
 use Rattle.wsm_journal.specs.Reading.{number_of}
-use Rattle.wsm_saved.specs.Numbers.{flag_text, number_text, read_flag, read_short, read_signed, signed_text}
+use Rattle.wsm_saved.specs.Numbers.{flag_text, number_text, read_flag, read_short, read_signed, read_word, signed_text}
 use Rattle.wsm_saved.specs.Lists.{ListFits, OptionFits, list_text, option_text, read_list, read_option}
 
 -- a value: its kind, and what it is
@@ -33,10 +33,16 @@ abbrev pub key_text : Option ℕ → List ℕ
 key_text key = option_text number_text key
 
 abbrev pub read_key : List ℕ → Option (Option ℕ × List ℕ)
-read_key text = read_option read_short text
+read_key text = read_option read_word text
+
+abbrev pub read_source : List ℕ → Option (Option ℕ × List ℕ)
+read_source text = read_option read_short text
 
 abbrev pub KeyFits : Option ℕ → Type 0
-KeyFits key = OptionFits (λ n. n < 2 ^ 16) key
+KeyFits key = OptionFits (λ n. n < 2 ^ 32) key
+
+abbrev pub SourceFits : Option ℕ → Type 0
+SourceFits source = OptionFits (λ n. n < 2 ^ 16) source
 
 -- an event: 0, its key, its time and its values, or 1, its source and its time
 abbrev pub event_text : Event → List ℕ
@@ -49,11 +55,11 @@ read_record text =
     (read_list read_value time.1)) (read_signed key.1)) (read_key text)
 
 unfoldable pub read_watermark : List ℕ → Option (Event × List ℕ)
-read_watermark text = option_and_then (λ source. option_map (λ time. (Watermark source.0 time.0, time.1)) (read_signed source.1)) (read_key text)
+read_watermark text = option_and_then (λ source. option_map (λ time. (Watermark source.0 time.0, time.1)) (read_signed source.1)) (read_source text)
 
 abbrev pub read_event : List ℕ → Option (Event × List ℕ)
 read_event text = option_and_then (λ p. if p.0 == 0 then read_record p.1 else if p.0 == 1 then read_watermark p.1 else None) (number_of text)
 
 abbrev pub EventFits : Event → Type 0
 EventFits (Record key time values) = KeyFits key × FitsSigned w64 time × ListFits ValueFits values
-EventFits (Watermark source time) = KeyFits source × FitsSigned w64 time
+EventFits (Watermark source time) = SourceFits source × FitsSigned w64 time

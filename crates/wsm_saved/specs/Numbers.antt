@@ -35,5 +35,8 @@ read_below most text = option_and_then (λ p. option_map (λ n. (n, p.1)) (below
 abbrev pub read_short : List ℕ → Option (ℕ × List ℕ)
 read_short text = read_below (2 ^ 16) text
 
+abbrev pub read_word : List ℕ → Option (ℕ × List ℕ)
+read_word text = read_below (2 ^ 32) text
+
 abbrev pub read_byte : List ℕ → Option (ℕ × List ℕ)
 read_byte text = read_below (2 ^ 8) text

@@ -2,7 +2,7 @@
 
 ghost use Rattle.std.specs.Prelude.{◌≡◌, ◌++◌, List, ℕ, IfOk, OnOk, option_map};
 ghost use Rattle.wsm_record.specs.Event.{event_of};
-ghost use Rattle.wsm_saved.specs.Events.{EventFits, KeyFits, ValueFits, event_text, key_text, read_event, read_record, read_value, read_watermark, value_text};
+ghost use Rattle.wsm_saved.specs.Events.{EventFits, KeyFits, SourceFits, ValueFits, event_text, key_text, read_event, read_record, read_value, read_watermark, value_text};
 ghost use Rattle.wsm_saved.specs.EventsBack.{event_reads_back, value_reads_back};
 
 use crate::restoring::Restoring;
@@ -12,17 +12,25 @@ use std::alloc::{AllocError, Global};
 use wsm_record::{Event, Value};
 
 // The number of a key or of a source, or none.
-fn save_key(key: Option<u16>, out: &mut Vec<u8>) -> Result<(), AllocError>
+fn save_key(key: Option<u32>, out: &mut Vec<u8>) -> Result<(), AllocError>
     ensures text { OnOk result (out.new.items ≡ out.old.items ++ key_text key) }
     ensures fits { OnOk result (KeyFits key) }
 {
     match key {
         Some(key) => {
             save_number(1, out)?;
-            save_number(key as u64, out)
+            save_number(u64::from(key), out)
         }
         None => save_number(0, out),
     }
+}
+
+// The number of a source, or none.
+fn save_source(source: Option<u16>, out: &mut Vec<u8>) -> Result<(), AllocError>
+    ensures text { OnOk result (out.new.items ≡ out.old.items ++ key_text source) }
+    ensures fits { OnOk result (SourceFits source) }
+{
+    save_key(source.map(u32::from), out)
 }
 
 impl Saved for Value {
@@ -99,7 +107,7 @@ impl Saved for Event {
             }
             Event::Watermark { source, time } => {
                 save_number(1, out)?;
-                save_key(*source, out)?;
+                save_source(*source, out)?;
                 save_signed(*time, out)
             }
         }
@@ -136,7 +144,7 @@ fn restore_record(alloc: Global, from: &mut Restoring<'_>) -> Result<Option<Even
 fn restore_watermark(from: &mut Restoring<'_>) -> Option<Event>
     ensures { option_map (λ e. (event_of e, from.new)) result ≡ read_watermark from.old }
 {
-    let source = from.key()?;
+    let source = from.source()?;
     let time = from.signed()?;
     Some(Event::Watermark { source, time })
 }

@@ -3,7 +3,7 @@
 ghost use Rattle.std.specs.Prelude.{◌≡◌, ◌↔◌, [], IsTrue, option_map};
 ghost use Rattle.wsm_journal.specs.Reading.{number_of};
 ghost use Rattle.wsm_saved.specs.Lists.{read_option};
-ghost use Rattle.wsm_saved.specs.Numbers.{read_byte, read_flag, read_short, read_signed};
+ghost use Rattle.wsm_saved.specs.Numbers.{read_byte, read_flag, read_short, read_signed, read_word};
 
 use std::marker::Model;
 use wsm_journal::number_of;
@@ -83,8 +83,27 @@ impl<'t> Restoring<'t> {
         u8::try_from(number).ok()
     }
 
-    /// The number of 16 bits that comes next, or that there is none.
-    pub fn key(&mut self) -> Option<Option<u16>>
+    /// The number of 32 bits that comes next.
+    pub fn word(&mut self) -> Option<u32>
+        ensures { option_map (λ n. (n, self.new)) result ≡ read_word self.old }
+    {
+        let number = self.number()?;
+        u32::try_from(number).ok()
+    }
+
+    /// The number of a key that comes next, or that there is none.
+    pub fn key(&mut self) -> Option<Option<u32>>
+        ensures { option_map (λ k. (k, self.new)) result ≡ read_option read_word self.old }
+    {
+        match self.number()? {
+            0 => Some(None),
+            1 => Some(Some(self.word()?)),
+            _ => None,
+        }
+    }
+
+    /// The number of a source that comes next, or that there is none.
+    pub fn source(&mut self) -> Option<Option<u16>>
         ensures { option_map (λ k. (k, self.new)) result ≡ read_option read_short self.old }
     {
         match self.number()? {

@@ -30,7 +30,7 @@ use Rattle.wsm_semantics.proofs.LaterMarks.{next_marks}
 use Rattle.wsm_semantics.proofs.LaterParts.{over_settled, over_parts_none}
 use Rattle.wsm_semantics.proofs.LaterKept.{summaries_settled}
 use Rattle.wsm_semantics.proofs.KeptAlike.{twice, verdict_kept, next_alike, relation_alike, relation_risen, follow_alike}
-use Rattle.wsm_semantics.proofs.NeededMarks.{steps_of, later, steps_whole, steps_out, later_marks, fewer, later_verdict, later_room, lags, below, needed_marks}
+use Rattle.wsm_semantics.proofs.NeededMarks.{Lag, steps_of, later, steps_whole, steps_out, later_marks, fewer, later_verdict, later_room, lags, below, needed_marks, taken}
 
 -- ---- none is refused for RECORDS
 

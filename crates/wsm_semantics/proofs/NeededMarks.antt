@@ -144,7 +144,7 @@ module _ (q : Query) (records : ℤ) (x : Times) where
       same = λ s few none. lag.same s few none ∙ leaves s few none;
     }
 
-    taken : (told : List ℕ) (some : List Event) → Lag (n ∷ told) past some → IsAccepted q.clock q.declared past (Some n) t → Lag told (w ∷ past) (w ∷ some)
+    pub taken : (told : List ℕ) (some : List Event) → Lag (n ∷ told) past some → IsAccepted q.clock q.declared past (Some n) t → Lag told (w ∷ past) (w ∷ some)
     taken told some lag accepted = record {
       lower = λ s. both_rise (source_mark anew.clock s some) (source_mark q.clock s past) t (nat_eq n s && is_time t) (lag.lower s);
       same = λ s few none. elim (nat_eq n s) as (λ b. nat_eq n s ≡ b → cond (b && is_time t) (int_max (source_mark anew.clock s some) t) (source_mark anew.clock s some) ≡ cond (b && is_time t) (int_max (source_mark q.clock s past) t) (source_mark q.clock s past)) [

@@ -25,7 +25,7 @@ fn key_number(
     ensures ok { IfOk result (λ n. key_number schema.now.keys section.now key.now name.now ≡ Ok n) }
     ensures fault { IfErr result (λ r. (r ≡ Refusal.Memory) ⊎ (key_number schema.now.keys section.now key.now name.now ≡ Err r)) }
 {
-    match schema.key_number(name.as_str().as_bytes()) {
+    match schema.keys().number_of(name.as_str().as_bytes()) {
         Some(number) => Ok(number),
         None => Err(refuse(alloc, SourceFault::UnknownName, section, key)),
     }

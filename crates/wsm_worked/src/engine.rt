@@ -41,7 +41,7 @@ fn opened(alloc: Global, changes: &[(usize, u8)]) -> Result<Engine, Fail> {
 }
 
 // Feeds a record of a key, whose number is 1.
-fn fed(alloc: Global, engine: &mut Engine, key: u16, time: i64) -> Result<Reply, Fail> {
+fn fed(alloc: Global, engine: &mut Engine, key: u32, time: i64) -> Result<Reply, Fail> {
     let values = [Value::Int(1)].to_vec(alloc)?;
     Ok(engine.feed(&Event::Record {
         key: Some(key),
