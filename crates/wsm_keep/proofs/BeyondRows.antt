@@ -33,7 +33,7 @@ use Rattle.wsm_semantics.proofs.FiringsSoFar.{not_some}
 use Rattle.wsm_semantics.proofs.KeyFirings.{filter-given}
 use Rattle.wsm_semantics.proofs.KeptLaw.{gap_is_long}
 use Rattle.wsm_semantics.proofs.LaterLaw.{beyond_serves, same_beyond, same_rows_beyond}
-use Rattle.wsm_semantics.proofs.NeededEvents.{later, later_room, steps_of, steps_out, steps_whole}
+use Rattle.wsm_semantics.proofs.NeededMarks.{later, steps_of, later_room, steps_out, steps_whole}
 use Rattle.wsm_semantics.proofs.SessionPlaces.{one_of, sessions_of}
 use Rattle.wsm_semantics.proofs.SessionStep.{among_places}
 use Rattle.wsm_semantics.proofs.SessionTimes.{IsOneOf}

@@ -13,7 +13,7 @@ use Rattle.wsm_semantics.specs.FromWatermark.{Times}
 use Rattle.wsm_semantics.specs.Needed.{is_one_of, is_selected_after, needed_without}
 use Rattle.wsm_semantics.proofs.Decided.{none_is}
 use Rattle.wsm_semantics.proofs.KeyParts.{fewer_admitted, no_fewer, one_more}
-use Rattle.wsm_semantics.proofs.NeededEvents.{Lag, lags, needed_marks}
+use Rattle.wsm_semantics.proofs.NeededMarks.{Lag, lags, needed_marks}
 
 no_limit : (v : Option Refusal) → v ≡ None → v ≢ Some RecordLimit
 no_limit None h = λ k. absurd (cc k)

@@ -28,7 +28,8 @@ use Rattle.wsm_semantics.proofs.EventTurns.{kept-watermark}
 use Rattle.wsm_semantics.proofs.Images.{fired_by_watermark-summaries, rows-summaries}
 use Rattle.wsm_semantics.proofs.KeptAlike.{rows_alike, verdict_kept}
 use Rattle.wsm_semantics.proofs.KeptLaw as kept_law
-use Rattle.wsm_semantics.proofs.NeededEvents.{Lag, below, keep_alike, lags, later, later_marks, later_room, later_verdict, needed_marks, panes_of_needed, steps_of}
+use Rattle.wsm_semantics.proofs.NeededEvents.{keep_alike, panes_of_needed}
+use Rattle.wsm_semantics.proofs.NeededMarks.{later, steps_of, Lag, below, lags, later_marks, later_room, later_verdict, needed_marks}
 use Rattle.wsm_semantics.proofs.Turns.{idle}
 use Rattle.wsm_amounts.proofs.Rises.{all_panes, count-turn, counted, total, writes, written}
 use Rattle.wsm_keep.proofs.TakenEvents.{rows_nothing}
