@@ -1,6 +1,7 @@
 -- As an event comes to the operator of a program, what it is given can be done, and what is done is what
 -- the definitions say.
-use Rattle.std.proofs.Common.{◌≡◌, ℕ, ◌+◌, ◌*◌, ◌≤◌, ◌++◌, Bool, true, false, cond, List, [], ◌∷◌, length, ℤ, pos, Option, Some, None, Ok, Result, SFits, w64, refl, sym, ap, subst, ◌∙◌, arith, append-nil}
+use Rattle.std.proofs.Common.{◌≡◌, ℕ, ◌+◌, ◌*◌, ◌<◌, ◌≤◌, ◌++◌, Bool, true, false, leb, cond, List, [], ◌∷◌, length, ℤ, pos, Option, Some, None, Ok, Result, Fits, SFits, w16, w64, refl, sym, ap, subst, ◌∙◌, arith, append-nil}
+use Rattle.std.proofs.lemmas.Bool.{and_parts, leb-true}
 use Rattle.std.proofs.lemmas.Int.{ints, fits_signed_from_abs}
 use Rattle.wsm_record.specs.declared.event.Value.{Value}
 use Rattle.wsm_record.specs.declared.cell.Cell.{Cell}
@@ -8,6 +9,8 @@ use Rattle.wsm_record.specs.declared.words.Form.{Form}
 use Rattle.wsm_record.specs.declared.words.Form.TheVariants as form
 use Rattle.wsm_record.specs.declared.words.Kind.{Kind}
 use Rattle.wsm_record.specs.Event.{Event, Record, Watermark}
+use Rattle.wsm_record.specs.Name.{is_between}
+use Rattle.wsm_record.specs.Schema.{Declared, are_names_after, is_name_list, is_schema}
 use Rattle.wsm_windows.specs.declared.window.Window.{Window}
 use Rattle.wsm_windows.specs.declared.window.Shape.{Shape}
 use Rattle.wsm_windows.specs.declared.window.Shape.TheVariants.{Fixed, Sliding, Session}
@@ -23,6 +26,7 @@ use Rattle.wsm_semantics.specs.Summaries.{entered}
 use Rattle.wsm_semantics.specs.Replay.{datum}
 use Rattle.wsm_semantics.specs.Relation.{chosen_rows, stream_rows}
 use Rattle.wsm_program.specs.Program.{Program}
+use Rattle.wsm_program.proofs.Lawful.{header_schema, program_header}
 use Rattle.wsm_rules.specs.Costs.{needed}
 use Rattle.wsm_machine.specs.Meaning.{query_of, plan_of, selects, updated, where_run, update_run, record_cost_by}
 use Rattle.wsm_machine.specs.Sound.{IsDatumInRange}
@@ -38,7 +42,7 @@ use Rattle.wsm_engine.specs.Operator.{IsAlone, IsOf, Comes, entering_cost}
 use Rattle.wsm_engine.proofs.RecordsByPlan.{entered_same}
 use Rattle.wsm_engine.proofs.Limits.{record_stated}
 use Rattle.wsm_engine.proofs.HeldByHistory.{Panes, kept_panes, kept_within}
-use Rattle.wsm_engine.proofs.RecordRoom.{ranged, timely, can_enter, now, now_within}
+use Rattle.wsm_engine.proofs.RecordRoom.{declared, ranged, timely, can_enter, now, now_within}
 use Rattle.wsm_engine.proofs.Firings.{can_by_record, can_by_watermark}
 use Rattle.wsm_engine.proofs.EngineTurns.{as_before}
 
@@ -160,6 +164,22 @@ pub time_fits : (p : Program) (past : List Event) (r : WindowOperator) (of : IsO
 time_fits p past r of m k t vs a e comes is ev =
     fits t (timely p (needed p) of.judged of.lawful past k t vs
     (none_refuses m (mark (query_of p) (Record (Some k) t vs ∷ past)) (Record (Some k) t vs) _ admitted.Record (sym is ∙ comes.answered ∙ ap (λ (f : Event). answer m (mark (query_of p) (f ∷ past)) f (verdict_on (query_of p) past f)) ev)))
+
+-- ---- places of 16 bits
+
+few_keys : (d : Declared) → is_schema d ≡ true → length d.keys ≤ 1000
+unfolding is_schema
+few_keys d h =
+    let names : is_name_list d.keys ≡ true = (and_parts (is_name_list d.keys) _ h).0 in
+    let count : is_between 1 1000 (length d.keys) ≡ true = (and_parts (is_between 1 1000 (length d.keys)) (are_names_after [] d.keys) names).0 in
+    leb-true (length d.keys) 1000 (and_parts (leb 1 (length d.keys)) (leb (length d.keys) 1000) count).1
+
+pub key_fits : (p : Program) (past : List Event) (r : WindowOperator) (of : IsOf p r) (m : ℤ) (k : ℕ) (t : ℤ) (vs : List Value) (a : Result Admitted Refusal) (e : Event) → Comes p past r.state.held m a e → a ≡ Ok admitted.Record → e ≡ Record (Some k) t vs → Fits w16 k
+key_fits p past r of m k t vs a e comes is ev =
+    let known : k < length p.header.schema.keys = declared p (needed p) of.judged of.lawful past k t vs
+    (none_refuses m (mark (query_of p) (Record (Some k) t vs ∷ past)) (Record (Some k) t vs) _ admitted.Record (sym is ∙ comes.answered ∙ ap (λ (f : Event). answer m (mark (query_of p) (f ∷ past)) f (verdict_on (query_of p) past f)) ev)) in
+    let few : length p.header.schema.keys ≤ 1000 = few_keys p.header.schema (header_schema p.header (program_header p of.lawful)) in
+    omega (arith, known, few)
 
 -- an accepted watermark is the event's, and goes from the mark
 from_the_mark : (m n : ℤ) (e : Event) (v : Option Refusal) (old new : ℤ) → Ok (admitted.Watermark old new) ≡ answer m n e v → (old ≡ m) × ((o : Option ℕ) × (t : ℤ) × (e ≡ Watermark o t))

@@ -3,8 +3,15 @@ use Rattle.wsm_record.specs.Event.{Record, event_of}
 use Rattle.wsm_admission.specs.declared.verdict.Admitted.TheVariants as admitted
 use Rattle.wsm_firing.specs.Tally.{tally_of}
 use Rattle.wsm_engine.proofs.Actions.{panes_record, fired_record, rows_record, panes_mark, fired_mark, relation_mark, rows_mark}
-use Rattle.wsm_engine.proofs.OperatorEvents.{time_fits, mark_fits, old_fits, comes_with, comes_at}
+use Rattle.wsm_engine.proofs.OperatorEvents.{key_fits, time_fits, mark_fits, old_fits, comes_with, comes_at}
 use Rattle.wsm_engine.proofs.acting.act.Goals as goal
+
+pub overflow_cast-arrival : goal.overflow_cast-arrival
+overflow_cast-arrival c =
+    let h = c.in-Record-Some-default-default in
+    let is : c.args.answer ≡ Ok admitted.Record = search rules in
+    let ev : event_of c.args.event.now ≡ Record (Some h.key) h.time h.values.items = search rules in
+    key_fits c.args.verified.now c.requires.comes.0 c.args.operator.now c.requires.program c.args.mark h.key h.time h.values.items c.args.answer (event_of c.args.event.now) c.requires.comes.1 is ev
 
 pub take_record-requires-clause-comes : goal.take_record-requires-clause-comes
 take_record-requires-clause-comes c =
