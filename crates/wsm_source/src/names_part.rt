@@ -72,7 +72,7 @@ impl NamesFile {
         ensures ok { OnOk result (end_line schema.now.keys self.old ≡ Ok self.new) }
         ensures fault { IfErr result (λ r. (r ≡ Refusal.Memory) ⊎ (end_line schema.now.keys self.old ≡ Err r)) }
     {
-        let Some(number) = schema.key_number(self.key.as_slice()) else {
+        let Some(number) = schema.keys().number_of(self.key.as_slice()) else {
             return Err(bad_line(alloc, self.line));
         };
         self.table.add(alloc, self.text.as_slice(), number)?;
