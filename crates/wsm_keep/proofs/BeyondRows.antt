@@ -1,27 +1,25 @@
 -- Where a time parts no session, records that came up to it may be left out for all rows of sessions beyond it, and then no other
 -- rows are written.
-use Rattle.std.proofs.Common.{◌≡◌, ◌≢◌, ℕ, Bool, true, false, ◌&&◌, cond, List, [], ◌∷◌, ◌++◌, map, length, ℤ, ◌+ℤ◌, Option, Some, None, inl, inr, refl, sym, ap, subst, ◌∙◌, append-nil}
-use Rattle.std.proofs.lemmas.Bool.{true≢false, eqb-true}
+use Rattle.std.proofs.Common.{◌≡◌, ℕ, Bool, true, false, ◌&&◌, cond, List, [], ◌∷◌, ◌++◌, map, length, ℤ, pos, ◌≤ℤ◌, Option, Some, None, refl, sym, ap, subst, ◌∙◌, append-nil}
+use Rattle.std.proofs.lemmas.Bool.{eqb-true}
 use Rattle.std.proofs.lemmas.Option.{same_Some}
 use Rattle.std.specs.Prelude.{filter_map, int_lt, nat_eq, option_map}
 use Rattle.std.specs.List.{AllByRecursion}
 use Rattle.wsm_record.specs.declared.cell.Cell.{Cell}
 use Rattle.wsm_record.specs.declared.words.Form.TheVariants.{Panes}
-use Rattle.wsm_record.specs.declared.words.Mode.TheVariants.{Retracting}
-use Rattle.wsm_record.specs.Modes.{retracts}
 use Rattle.wsm_record.specs.Event.{Event, Record, Watermark}
 use Rattle.wsm_windows.specs.declared.window.PaneKind.{PaneKind}
 use Rattle.wsm_windows.specs.declared.window.Window.{Window}
 use Rattle.wsm_windows.specs.declared.window.Shape.TheVariants.{Session}
 use Rattle.wsm_windows.specs.declared.place.Place.{Place}
 use Rattle.wsm_windows.specs.Places.{window_of}
-use Rattle.wsm_windows.specs.Windows.{IsShape, window}
+use Rattle.wsm_windows.specs.Windows.{IsShape}
 use Rattle.wsm_semantics.specs.declared.out_row.OutRow.{OutRow}
 use Rattle.wsm_semantics.specs.declared.out_row.OutRow.TheVariants.{Pane}
 use Rattle.wsm_semantics.specs.Query.{Datum, Selects, Nothing, Query, SessionsByEvent, datum, effect_of, is_taken, mark, selected, selection, selection_of}
-use Rattle.wsm_semantics.specs.Sessions.{rising, sessions, sessions_of_rising, with_earlier, with_time}
 use Rattle.wsm_semantics.specs.Panes.{of_key, panes}
-use Rattle.wsm_semantics.specs.Firings.{Firing, fire, firing_of, firing_set, firings, is_shown, kind_on, row_of}
+use Rattle.wsm_semantics.specs.Firings.{Firing, fire, firing_of, firing_set, firings, is_shown, kind_on, pane_rows, row_of}
+use Rattle.wsm_semantics.specs.Retractions.{retract_rows}
 use Rattle.wsm_semantics.specs.Relation.{turn_rows}
 use Rattle.wsm_semantics.specs.ByKey.{HasRoom, IgnoresTurns}
 use Rattle.wsm_semantics.specs.FromWatermark.{Goes, MayLeaveOut, PartsNoSession, Stays, Step, Times, is_beyond, is_row_at, rest, whole}
@@ -39,48 +37,9 @@ use Rattle.wsm_semantics.proofs.SessionStep.{among_places}
 use Rattle.wsm_semantics.proofs.SessionTimes.{IsOneOf}
 use Rattle.wsm_semantics.proofs.ShownPanes.{IsPane, each_pane, unshown_of}
 use Rattle.wsm_keep.specs.WrittenBeyond.{rows_beyond}
+use Rattle.wsm_keep.proofs.BeyondTimes.{begin_later, one_later}
 use Rattle.wsm_keep.proofs.TakenEvents.{rows_fired}
-
--- ---- sessions of later times
-
-module _ (gap x : ℤ) where
-  abbrev AreLater : List ℤ → Type 0
-  AreLater ts = AllByRecursion (λ t. int_lt x t ≡ true) ts
-
-  abbrev BeginLater : List Window → Type 0
-  BeginLater ws = AllByRecursion (λ w. int_lt x w.start ≡ true) ws
-
-  later_earlier : (t : ℤ) (ws : List Window) → int_lt x t ≡ true → BeginLater ws → BeginLater (with_earlier gap t ws)
-  later_earlier t [] h k = (h, tt)
-  later_earlier t (w ∷ ws) h k =
-      elim (int_lt w.start (t +ℤ gap)) as (λ b. BeginLater (cond b (window t w.end ∷ ws) (window t (t +ℤ gap) ∷ w ∷ ws))) [
-        | true ↦ (h, k.1)
-        | false ↦ (h, k)
-      ]
-
-  of_rising : (ts : List ℤ) → AreLater ts → BeginLater (sessions_of_rising gap ts)
-  of_rising [] h = tt
-  of_rising (t ∷ ts) h = later_earlier t (sessions_of_rising gap ts) h.0 (of_rising ts h.1)
-
-  later_put : (t : ℤ) (ts : List ℤ) → int_lt x t ≡ true → AreLater ts → AreLater (with_time t ts)
-  later_put t [] h k = (h, tt)
-  later_put t (u ∷ us) h k =
-      elim (int_lt t u) as (λ b. AreLater (cond b (t ∷ u ∷ us) (u ∷ with_time t us))) [
-        | true ↦ (h, k)
-        | false ↦ (k.0, later_put t us h k.1)
-      ]
-
-  later_rising : (ts : List ℤ) → AreLater ts → AreLater (rising ts)
-  later_rising [] h = tt
-  later_rising (t ∷ ts) h = later_put t (rising ts) h.0 (later_rising ts h.1)
-
-  pub begin_later : (ts : List ℤ) → AreLater ts → BeginLater (sessions gap ts)
-  begin_later ts h = of_rising (rising ts) (later_rising ts h)
-
-  one_later : (w : Window) (ws : List Window) → IsOneOf w ws → BeginLater ws → int_lt x w.start ≡ true
-  one_later w [] one h = absurd one
-  one_later w (v ∷ vs) (inl is) h = subst (λ (u : Window). int_lt x u.start ≡ true) (sym is) h.0
-  one_later w (v ∷ vs) (inr one) h = one_later w vs one h.1
+use Rattle.wsm_keep.proofs.WithdrawnBeyond.{retracts_late, retracts_none, retracts_same}
 
 -- ---- rows of later records
 
@@ -125,12 +84,22 @@ module _ (q : Query) (gap : ℤ) (is : q.shape ≡ Session gap) (ok : IsShape q.
       (panes q (e ∷ past))
       (all-each (IsPane q (e ∷ past)) (λ p. is_beyond x p.0 ≡ true) (panes q (e ∷ past)) (λ p pane. pane_later (e ∷ past) all p pane) (each_pane q (e ∷ past)))
 
-  module _ (form : q.form ≡ Panes) (mode : retracts q.mode ≡ false) where
+  module _ (form : q.form ≡ Panes) (timely : SessionsByEvent q) (low : pos 0 ≤ℤ q.clock.lateness) where
+    abbrev withdrawn : List Event → Event → List OutRow
+    withdrawn past e = retract_rows q.mode q past e
+
+    -- by what is withdrawn and what fires
+    in_parts : (past : List Event) (e : Event) → rows_beyond x (turn_rows q past e) ≡ rows_beyond x (withdrawn past e) ++ rows_beyond x (pane_rows q past e)
+    in_parts past e = ap (rows_beyond x) (rows_fired q form past e) ∙ filter-append (is_row_at (is_beyond x)) (withdrawn past e) (pane_rows q past e)
+
     rows_later : (past : List Event) (e : Event) → AllLater (e ∷ past) → rows_beyond x (turn_rows q past e) ≡ turn_rows q past e
     rows_later past e all =
-        all_of (is_row_at (is_beyond x)) (turn_rows q past e)
-        (subst (AllByRecursion (λ y. is_row_at (is_beyond x) y ≡ true)) (sym (rows_fired q form mode past e))
-        (filter_map-all (λ f. is_beyond x f.place ≡ true) (λ y. is_row_at (is_beyond x) y ≡ true) (row_of q) (λ f h y row. row_place q (is_beyond x) f y row ∙ h) (firings q past e) (firings_later past e all)))
+        let fired : rows_beyond x (pane_rows q past e) ≡ pane_rows q past e =
+        all_of (is_row_at (is_beyond x)) (pane_rows q past e)
+        (filter_map-all (λ f. is_beyond x f.place ≡ true) (λ y. is_row_at (is_beyond x) y ≡ true) (row_of q) (λ f h y row. row_place q (is_beyond x) f y row ∙ h) (firings q past e) (firings_later past e all)) in
+        in_parts past e
+        ∙ (λ i. retracts_late q gap is ok timely low x q.mode past e (pane_later past (all-after IsLater (selection_of q past e) (selected q past) all)) i ++ fired i)
+        ∙ sym (rows_fired q form past e)
 
     -- ---- the later records alone
 
@@ -162,25 +131,31 @@ module _ (q : Query) (gap : ℤ) (is : q.shape ≡ Session gap) (ok : IsShape q.
 
     -- ---- in the place of the whole
 
-    module _ (timely : SessionsByEvent q) (ignores : IgnoresTurns q) where
+    module _ (ignores : IgnoresTurns q) where
       abbrev May : List Step → Type 0
       May steps = MayLeaveOut q q.clock.start q.clock.records x steps
-
-      merges : (gap : ℤ) → q.shape ≡ Session gap → q.mode ≢ Retracting
-      merges gap is retracting = true≢false (sym (ap retracts retracting) ∙ mode)
 
       -- a record that is left out writes none of these
       gone : (steps : List Step) (e : Event) → May (Goes e ∷ steps) → rows_beyond x (turn_rows q (whole steps []) e) ≡ []
       gone steps e may =
-          ap (rows_beyond x) (rows_fired q form mode (whole steps []) e)
-          ∙ filter-given (row_of q) (is_row_at (is_beyond x)) (λ f. is_beyond x f.place) (row_place q (is_beyond x)) (firings q (whole steps []) e)
-          ∙ ap (filter_map (row_of q)) ((same_beyond q ok timely q.clock.records x).gone steps e may)
+          let past : List Event = whole steps [] in
+          let fired : rows_beyond x (pane_rows q past e) ≡ [] =
+          filter-given (row_of q) (is_row_at (is_beyond x)) (λ f. is_beyond x f.place) (row_place q (is_beyond x)) (firings q past e)
+          ∙ ap (filter_map (row_of q)) ((same_beyond q ok timely q.clock.records x).gone steps e may) in
+          in_parts past e ∙ (λ i. retracts_none q gap is ok timely low x q.mode steps e may i ++ fired i)
+
+      -- and one that stays the same
+      stays : (steps : List Step) (e : Event) → May (Stays e ∷ steps) → rows_beyond x (turn_rows q (whole steps []) e) ≡ rows_beyond x (turn_rows q (rest steps []) e)
+      stays steps e may =
+          in_parts (whole steps []) e
+          ∙ (λ i. retracts_same q gap is ok timely low x ignores q.mode steps e may i ++ (same_rows_beyond q ok timely ignores q.clock.records x).panes steps e may may.2 i)
+          ∙ sym (in_parts (rest steps []) e)
 
       by_steps : (steps : List Step) → May steps → rows_beyond x (rows_so_far q (whole steps [])) ≡ rows_beyond x (rows_so_far q (rest steps []))
       by_steps [] may = refl
       by_steps (Stays e ∷ steps) may =
           filter-append (is_row_at (is_beyond x)) (rows_so_far q (whole steps [])) (turn_rows q (whole steps []) e)
-          ∙ (λ i. by_steps steps ((beyond_serves q ok q.clock.records x).stays e steps may) i ++ (same_rows_beyond q ok timely ignores q.clock.records x).rows merges form steps e may may.2 i)
+          ∙ (λ i. by_steps steps ((beyond_serves q ok q.clock.records x).stays e steps may) i ++ stays steps e may i)
           ∙ sym (filter-append (is_row_at (is_beyond x)) (rows_so_far q (rest steps [])) (turn_rows q (rest steps []) e))
       by_steps (Goes e ∷ steps) may =
           filter-append (is_row_at (is_beyond x)) (rows_so_far q (whole steps [])) (turn_rows q (whole steps []) e)

@@ -15,6 +15,9 @@ pub mod NeededTaken
 pub mod SelectedRows
 pub mod StayingLines
 pub mod TakenEvents
+pub mod BeyondTimes
+pub mod StandsBeyond
+pub mod WithdrawnBeyond
 pub mod BeyondRows
 pub mod RisesTogether
 pub mod WrittenBeyond

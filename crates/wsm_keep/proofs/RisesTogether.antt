@@ -2,6 +2,7 @@
 -- as with all records that came later than some times, and all watermarks.
 use Rattle.std.proofs.Common.{◌≡◌, ℕ, ◌+◌, Bool, true, false, ◌&&◌, cond, not, List, [], ◌∷◌, ◌++◌, length, ℤ, pos, ◌≤ℤ◌, Option, Some, None, is_none, is_some, refl, sym, ap, subst, ◌∙◌, append-nil, length-append, arith}
 use Rattle.std.specs.Prelude.{filter_map, int_lt}
+use Rattle.std.specs.List.{cons_option}
 use Rattle.wsm_record.specs.declared.words.Form.TheVariants.{Panes}
 use Rattle.wsm_record.specs.Modes.{retracts}
 use Rattle.wsm_record.specs.Event.{Event, Record, Watermark}
@@ -14,18 +15,19 @@ use Rattle.wsm_admission.proofs.SourceMarks.{watermark_rises}
 use Rattle.wsm_semantics.specs.declared.out_row.OutRow.{OutRow}
 use Rattle.wsm_semantics.specs.Query.{Query, Selects, Nothing, SessionsByEvent, datum, effect_of, is_taken, mark, verdict_on}
 use Rattle.wsm_semantics.specs.Firings.{firing_set}
-use Rattle.wsm_semantics.specs.Firings as firings
-use Rattle.wsm_semantics.specs.Retractions.{retracted}
+use Rattle.wsm_semantics.specs.Retractions.{retracted, retracted_in}
 use Rattle.wsm_semantics.specs.Relation.{turn_rows}
-use Rattle.wsm_semantics.specs.Kept.{Kept, fires, kept, kept_after_watermark, kind_by_watermark, withdrawn_firing}
-use Rattle.wsm_semantics.specs.Summaries.{IsLawful, Pane, Plan, Runs, fired_by_watermark, row_of, summaries}
+use Rattle.wsm_semantics.specs.Kept.{Firing, Joined, Kept, Stands, Unfired, fires, kept, kept_after_watermark, kind_by_watermark, withdrawn_firing, written_by}
+use Rattle.wsm_semantics.specs.declared.standing.Standing.TheVariants.{Row}
+use Rattle.wsm_semantics.specs.Summaries as sums
+use Rattle.wsm_semantics.specs.Summaries.{IsLawful, Pane, Plan, Runs, fired_by_watermark, row_of, standing_of, summaries}
 use Rattle.wsm_semantics.specs.ByKey.{HasRoom}
 use Rattle.wsm_semantics.specs.FromWatermark.{Goes, Stays, Times, rest}
 use Rattle.wsm_semantics.specs.FromKept.{KeepAlike}
 use Rattle.wsm_semantics.specs.Needed.{is_one_of, needed_without}
 use Rattle.wsm_semantics.specs.LastingRows.{rows_so_far}
 use Rattle.wsm_semantics.proofs.EventTurns.{kept-watermark}
-use Rattle.wsm_semantics.proofs.Images.{fired_by_watermark-summaries, rows-summaries}
+use Rattle.wsm_semantics.proofs.Images.{fired_by_watermark-summaries, rows-summaries, same_kind}
 use Rattle.wsm_semantics.proofs.KeptAlike.{rows_alike, verdict_kept}
 use Rattle.wsm_semantics.proofs.KeptLaw as kept_law
 use Rattle.wsm_semantics.proofs.NeededEvents.{keep_alike, panes_of_needed}
@@ -35,24 +37,44 @@ use Rattle.wsm_amounts.proofs.Rises.{all_panes, count-turn, counted, total, writ
 use Rattle.wsm_keep.proofs.TakenEvents.{rows_nothing}
 
 module _ {X : Type 0} (plan : Plan X) (lawful : IsLawful plan) (q : Query) (runs : Runs plan q) (ok : IsShape q.shape) (timely : SessionsByEvent q) (low : pos 0 ≤ℤ q.clock.lateness)
-    (form : q.form ≡ Panes) (mode : retracts q.mode ≡ false) where
+    (form : q.form ≡ Panes) where
   -- ---- what a rise writes of what is kept
 
   abbrev at_rise : ℤ → ℤ → List (Place × Kept) → ℕ
   at_rise a b es = total (written q low a b) es
 
-  -- by the panes' summaries
-  of_fired : (a b : ℤ) (es : List (Place × Kept)) → at_rise a b es ≡ length (filter_map (row_of plan) (fired_by_watermark plan q a b (summaries plan q.mode es)))
+  -- what is withdrawn, by the panes' summaries
+  written_summary : retracts q.mode ≡ true → (p : Place) (s : Stands) → sums.written_by p (standing_of plan q.mode p.key s) ≡ written_by q p s
+  written_summary h p Unfired = refl
+  written_summary h p (Firing window fired) = λ i. sums.written_by p (Row (cond (h i) (Some window) None) (runs.row p.key fired i))
+  written_summary h p Joined = refl
+
+  withdrawn_summaries : retracts q.mode ≡ true → (a b : ℤ) (es : List (Place × Kept)) → sums.withdrawn_by_watermark q a b (summaries plan q.mode es) ≡ withdrawn_firing q (kind_by_watermark q a b) es
+  withdrawn_summaries h a b [] = refl
+  withdrawn_summaries h a b (e ∷ es) = λ i. cons_option (cond (is_some (same_kind plan q a b es e.0 e.1 i)) (written_summary h e.0 e.1.stands i) None) (withdrawn_summaries h a b es i)
+
+  abbrev rows_withdrawn : ℤ → ℤ → List (Place × Pane X) → List OutRow
+  rows_withdrawn a b ps = retracted_in q.mode (sums.withdrawn_by_watermark q a b ps)
+
+  of_withdrawn : (a b : ℤ) (es : List (Place × Kept)) → retracted_in q.mode (withdrawn_firing q (kind_by_watermark q a b) es) ≡ rows_withdrawn a b (summaries plan q.mode es)
+  of_withdrawn a b es =
+      elim (retracts q.mode) as (λ c. retracts q.mode ≡ c → cond c (retracted (withdrawn_firing q (kind_by_watermark q a b) es)) [] ≡ cond c (retracted (sums.withdrawn_by_watermark q a b (summaries plan q.mode es))) []) [
+        | true ↦ λ h. ap retracted (sym (withdrawn_summaries h a b es))
+        | false ↦ λ _. refl
+      ] refl
+
+  -- and all that is written
+  of_fired : (a b : ℤ) (es : List (Place × Kept)) → at_rise a b es ≡ length (rows_withdrawn a b (summaries plan q.mode es) ++ filter_map (row_of plan) (fired_by_watermark plan q a b (summaries plan q.mode es)))
   of_fired a b es =
       let kind : Place → Kept → Option PaneKind = kind_by_watermark q a b in
       sym (count-turn q kind 0 es)
-      ∙ ap (λ (c : Bool). length (cond c (retracted (withdrawn_firing q kind es)) [] ++ filter_map (firings.row_of q) (fires q 0 kind es))) mode
-      ∙ sym (ap length (
+      ∙ (λ i. length (of_withdrawn a b es i
+      ++ sym (
       ap (filter_map (row_of plan)) (fired_by_watermark-summaries plan q a b es 0)
-      ∙ rows-summaries plan q runs (fires q 0 kind es)))
+      ∙ rows-summaries plan q runs (fires q 0 kind es)) i))
 
   by_sums : (a b : ℤ) (es fs : List (Place × Kept)) → summaries plan q.mode es ≡ summaries plan q.mode fs → at_rise a b es ≡ at_rise a b fs
-  by_sums a b es fs same = of_fired a b es ∙ ap (λ (ps : List (Place × Pane X)). length (filter_map (row_of plan) (fired_by_watermark plan q a b ps))) same ∙ sym (of_fired a b fs)
+  by_sums a b es fs same = of_fired a b es ∙ ap (λ (ps : List (Place × Pane X)). length (rows_withdrawn a b ps ++ filter_map (row_of plan) (fired_by_watermark plan q a b ps))) same ∙ sym (of_fired a b fs)
 
   -- none where the watermark stays
   at_none : (m : ℤ) (es : List (Place × Kept)) → at_rise m m es ≡ 0
@@ -168,7 +190,7 @@ module _ {X : Type 0} (plan : Plan X) (lawful : IsLawful plan) (q : Query) (runs
                 ap (λ (v : Option Refusal). cond (is_none v && q.selects k vs) (Selects (datum (length (alone past)) (mark q (alone past)) k t vs)) Nothing) (later_verdict q x past e room)
                 ∙ ap (λ (b : Bool). cond b (Selects (datum (length (alone past)) (mark q (alone past)) k t vs)) Nothing) other in
                 writes_alike past room.1 told roomy
-                ∙ sym (ap (λ (rows : List OutRow). length (rows_so_far q (alone past) ++ rows)) (rows_nothing q form mode (alone past) e none) ∙ ap length (append-nil (rows_so_far q (alone past))))
+                ∙ sym (ap (λ (rows : List OutRow). length (rows_so_far q (alone past) ++ rows)) (rows_nothing q ok timely low form (alone past) e none) ∙ ap length (append-nil (rows_so_far q (alone past))))
           ] refl
           | false ↦ λ roomy. writes_alike past room.1 told roomy
         ] roomy

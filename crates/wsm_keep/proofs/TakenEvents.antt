@@ -1,12 +1,10 @@
 -- Events that are refused may be left out: the same is kept, the same rows are written, and the same events are needed.
 use Rattle.std.proofs.Common.{◌≡◌, ◌≢◌, ℕ, Bool, true, false, ◌&&◌, cond, not, List, [], ◌∷◌, ◌++◌, map, length, ℤ, pos, ◌≤ℤ◌, Option, Some, None, is_none, refl, sym, ap, ◌∙◌, append-nil}
-use Rattle.std.proofs.lemmas.Bool.{true≢false}
 use Rattle.std.proofs.Math.Bool.{and-false}
 use Rattle.std.specs.Prelude.{filter_map, int_lt, nat_eq}
 use Rattle.wsm_record.specs.declared.words.Form.{Form}
 use Rattle.wsm_record.specs.declared.words.Form.TheVariants.{Panes}
 use Rattle.wsm_record.specs.declared.words.Mode.{Mode}
-use Rattle.wsm_record.specs.declared.words.Mode.TheVariants.{Discarding, Accumulating, Retracting}
 use Rattle.wsm_record.specs.Modes.{retracts}
 use Rattle.wsm_record.specs.Event.{Event, Record, Watermark}
 use Rattle.wsm_windows.specs.Windows.{IsShape}
@@ -17,8 +15,10 @@ use Rattle.wsm_admission.proofs.SourceMarks.{refused_marks}
 use Rattle.wsm_semantics.specs.declared.out_row.OutRow.{OutRow}
 use Rattle.wsm_semantics.specs.Query.{Datum, Effect, Selects, Rises, Nothing, Query, SessionsByEvent, datum, effect_of, is_taken, mark, raises, selected, selection, verdict_on}
 use Rattle.wsm_semantics.specs.Panes.{of_key}
-use Rattle.wsm_semantics.specs.Firings.{Firing, firings, row_of}
-use Rattle.wsm_semantics.specs.Retractions.{retract_rows}
+use Rattle.wsm_semantics.specs.Firings.{firings, row_of}
+use Rattle.wsm_semantics.specs.Retractions.{retract_rows, retracted, retracted_in}
+use Rattle.wsm_semantics.specs.Kept.{kept}
+use Rattle.wsm_semantics.specs.Replay.{withdrawn_by}
 use Rattle.wsm_semantics.specs.Relation.{chosen_rows, streamed, turn_rows}
 use Rattle.wsm_semantics.specs.Summaries.{Plan, IsLawful, Runs, summaries}
 use Rattle.wsm_semantics.specs.ByKey.{HasRoom}
@@ -27,6 +27,7 @@ use Rattle.wsm_semantics.specs.FromKept.{KeepAlike}
 use Rattle.wsm_semantics.specs.Needed.{is_one_of, needed_without}
 use Rattle.wsm_semantics.specs.LastingRows.{rows_so_far}
 use Rattle.wsm_semantics.proofs.Effects.{effect-refused}
+use Rattle.wsm_semantics.proofs.KeptLaw as kept_law
 use Rattle.wsm_semantics.proofs.KeptTurns.{kept-nothing}
 use Rattle.wsm_semantics.proofs.LaterMarks.{next_marks}
 use Rattle.wsm_semantics.proofs.Turns.{firings-nothing}
@@ -34,19 +35,22 @@ use Rattle.wsm_semantics.proofs.KeptAlike.{next_alike, rows_alike}
 
 -- ---- a turn that fires nothing
 
-nothing_withdrawn : (m : Mode) → retracts m ≡ false → (q : Query) (past : List Event) (e : Event) → retract_rows m q past e ≡ []
-nothing_withdrawn Discarding h q past e = refl
-nothing_withdrawn Accumulating h q past e = refl
-nothing_withdrawn Retracting h q past e = absurd (true≢false h)
+-- where panes are written the rows are those of what is withdrawn and of firings
+pub rows_fired : (q : Query) → q.form ≡ Panes → (past : List Event) (e : Event) → turn_rows q past e ≡ retract_rows q.mode q past e ++ filter_map (row_of q) (firings q past e)
+rows_fired q form past e = ap (λ (f : Form). chosen_rows f (retract_rows q.mode q past e ++ filter_map (row_of q) (firings q past e)) (streamed q past e)) form
 
--- where panes are written and none is withdrawn the rows are those of firings
-pub rows_fired : (q : Query) → q.form ≡ Panes → retracts q.mode ≡ false → (past : List Event) (e : Event) → turn_rows q past e ≡ filter_map (row_of q) (firings q past e)
-rows_fired q form mode past e =
-    ap (λ (f : Form). chosen_rows f (retract_rows q.mode q past e ++ filter_map (row_of q) (firings q past e)) (streamed q past e)) form
-    ∙ ap (λ (rows : List OutRow). rows ++ filter_map (row_of q) (firings q past e)) (nothing_withdrawn q.mode mode q past e)
+none_retracted : (m : Mode) → retracted_in m [] ≡ []
+none_retracted m = elim (retracts m) as (λ b. cond b (retracted []) [] ≡ []) [ true ↦ refl | false ↦ refl ]
 
-pub rows_nothing : (q : Query) → q.form ≡ Panes → retracts q.mode ≡ false → (past : List Event) (e : Event) → effect_of q past e ≡ Nothing → turn_rows q past e ≡ []
-rows_nothing q form mode past e none = rows_fired q form mode past e ∙ ap (λ (fs : List Firing). filter_map (row_of q) fs) (firings-nothing q past e none)
+module _ (q : Query) (ok : IsShape q.shape) (timely : SessionsByEvent q) (low : pos 0 ≤ℤ q.clock.lateness) where
+  nothing_withdrawn : (past : List Event) (e : Event) → effect_of q past e ≡ Nothing → retract_rows q.mode q past e ≡ []
+  nothing_withdrawn past e none =
+      kept_law.retract_rows-by q ok timely low q.mode past e
+      ∙ ap (λ (x : Effect). retracted_in q.mode (withdrawn_by q x (kept q past))) none
+      ∙ none_retracted q.mode
+
+  pub rows_nothing : q.form ≡ Panes → (past : List Event) (e : Event) → effect_of q past e ≡ Nothing → turn_rows q past e ≡ []
+  rows_nothing form past e none = rows_fired q form past e ∙ (λ i. nothing_withdrawn past e none i ++ filter_map (row_of q) (firings-nothing q past e none i))
 
 -- ---- refused events
 
@@ -189,10 +193,10 @@ module _ {X : Type 0} (plan : Plan X) (lawful : IsLawful plan) (q : Query) (runs
         panes = ap (summaries plan q.mode) (kept-nothing q past e (effect-refused q past e r h)) ∙ before.panes;
       })
 
-  module _ (form : q.form ≡ Panes) (mode : retracts q.mode ≡ false) where
+  module _ (form : q.form ≡ Panes) where
     pub taken_rows : (past : List Event) → rows_so_far q (taken q past) ≡ rows_so_far q past
     taken_rows [] = refl
     taken_rows (e ∷ past) =
         by_verdict q (λ b. rows_so_far q (cond b (e ∷ taken q past) (taken q past)) ≡ rows_so_far q past ++ turn_rows q past e) past e
         (λ _. λ i. taken_rows past i ++ sym (rows_alike plan lawful q runs ok timely low q.clock.start q.clock.records past (taken q past) (taken_alike past) e (verdict_taken q past e) form) i)
-        (λ r h. taken_rows past ∙ sym (append-nil (rows_so_far q past)) ∙ sym (ap (λ (rows : List OutRow). rows_so_far q past ++ rows) (rows_nothing q form mode past e (effect-refused q past e r h))))
+        (λ r h. taken_rows past ∙ sym (append-nil (rows_so_far q past)) ∙ sym (ap (λ (rows : List OutRow). rows_so_far q past ++ rows) (rows_nothing q ok timely low form past e (effect-refused q past e r h))))

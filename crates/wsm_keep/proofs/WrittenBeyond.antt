@@ -58,7 +58,7 @@ writes_beyond plan lawful q runs ok timely low writes past =
     let none : PartsNoSession q x some = λ gap is key. subst (λ (ts : List ℤ). AllByRecursion (λ w. is_beside gap (x key) w ≡ true) (sessions gap ts)) (sym (taken_times q key past)) (over_parts_none q ok past gap is key) in
     ap (λ (f : Form). length (rows_so_far q (needed_by f q past))) writes.form
     ∙ sym (ap (λ (es : List Event). length (rows_so_far q es)) (taken_needs q x past []))
-    ∙ as_many plan lawful q runs ok timely low writes.form writes.mode x some room (roomy q x (needed_without q x [] some) (all_taken q x some []))
+    ∙ as_many plan lawful q runs ok timely low writes.form x some room (roomy q x (needed_without q x [] some) (all_taken q x some []))
     ∙ ap length (
-    sym (beyond_alone q gap is ok x writes.form writes.mode timely (turns_ignored plan q runs) some room none)
-    ∙ ap (rows_beyond x) (taken_rows plan lawful q runs ok timely low writes.form writes.mode past))
+    sym (beyond_alone q gap is ok x writes.form timely low (turns_ignored plan q runs) some room none)
+    ∙ ap (rows_beyond x) (taken_rows plan lawful q runs ok timely low writes.form past))

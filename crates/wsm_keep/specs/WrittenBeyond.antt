@@ -2,7 +2,6 @@
 -- begin beyond the times up to which records go. So they are counted as all rows are read.
 use Rattle.std.specs.Prelude.{◌≡◌, Bool, true, false, List, filter, length}
 use Rattle.wsm_record.specs.declared.words.Form.TheVariants.{Panes}
-use Rattle.wsm_record.specs.Modes.{retracts}
 use Rattle.wsm_record.specs.Event.{Event}
 use Rattle.wsm_windows.specs.declared.window.Shape.{Shape}
 use Rattle.wsm_windows.specs.declared.window.Shape.TheVariants.{Fixed, Sliding, Session}
@@ -21,10 +20,9 @@ are_sessions (Fixed size) = false
 are_sessions (Sliding size period) = false
 are_sessions (Session gap) = true
 
--- panes of sessions are written, and none is withdrawn
+-- panes of sessions are written
 pub record WritesSessions (q : Query) : Type 0 where
   pub shape : are_sessions q.shape ≡ true
-  pub mode : retracts q.mode ≡ false
   pub form : q.form ≡ Panes
 
 -- a run over the needed events writes as many rows as one over the history wrote for windows that begin beyond
