@@ -121,17 +121,17 @@ module _ (q : Query) (gap : ℤ) (sessions : q.shape ≡ Session gap) (ok : IsSh
   abbrev late : Place → Bool
   late = is_beyond x
 
-  abbrev isLate : Firing → Bool
-  isLate = is_late q late
+  abbrev fires_late : Firing → Bool
+  fires_late = is_late q late
 
   abbrev May : List Step → Type 0
   May steps = MayLeaveOut q q.clock.start q.clock.records x steps
 
   -- of one history what stands for panes that begin beyond
-  standing_late : (past : List Event) → PartsNoSession q x past → (ys : List (Place × List Datum)) → AllByRecursion (IsPane q past) ys → filter isLate (standing_for q past ys) ≡ standing_for q past (filter (λ y. late y.0) ys)
+  standing_late : (past : List Event) → PartsNoSession q x past → (ys : List (Place × List Datum)) → AllByRecursion (IsPane q past) ys → filter fires_late (standing_for q past ys) ≡ standing_for q past (filter (λ y. late y.0) ys)
   standing_late past parts ys each =
-      filter-known (IsPane q past) (λ y. standing q (firings_so_far q past) y.0 y.1) isLate (λ y. late y.0)
-      (λ y pane g h. elim (late y.0) as (λ b. late y.0 ≡ b → isLate g ≡ b) [
+      filter-known (IsPane q past) (λ y. standing q (firings_so_far q past) y.0 y.1) fires_late (λ y. late y.0)
+      (λ y pane g h. elim (late y.0) as (λ b. late y.0 ≡ b → fires_late g ≡ b) [
         | true ↦ λ is. stands_beyond q gap sessions ok timely x past y pane is g h
         | false ↦ λ early. stands_early q gap sessions ok timely x past y pane parts early g h
       ] refl) ys each
@@ -155,7 +155,7 @@ module _ (q : Query) (gap : ℤ) (sessions : q.shape ≡ Session gap) (ok : IsSh
 
     -- what stands for panes that are the same
     stand_same : (ys zs : List (Place × List Datum)) → AllByRecursion (IsPane q H) ys → AllByRecursion (IsPane q R) zs → filter (λ y. late y.0) ys ≡ map (pane_at f) (filter (λ y. late y.0) zs) →
-        filter isLate (standing_for q H ys) ≡ map (firing_at f) (filter isLate (standing_for q R zs))
+        filter fires_late (standing_for q H ys) ≡ map (firing_at f) (filter fires_late (standing_for q R zs))
     stand_same ys zs in_whole in_rest same =
         standing_late H may.1 ys in_whole
         ∙ standing_for_same q ok timely low q.clock.start q.clock.records x late (beyond_lates x) May [] [] 0 (both_empty q q.clock.records x) (beyond_serves q ok q.clock.records x) (beyond_live q ok q.clock.records x) f rises
@@ -163,7 +163,7 @@ module _ (q : Query) (gap : ℤ) (sessions : q.shape ≡ Session gap) (ok : IsSh
         (filter-all (IsPane q H) (λ y. late y.0) ys in_whole) (filter-all (IsPane q R) (λ y. late y.0) zs in_rest) (passed (λ y. late y.0) zs)
         ∙ ap (map (firing_at f)) (sym (standing_late R rest_parts zs in_rest))
 
-    pub stand_live : (v w : ℤ) → v ≡ w → filter isLate (standing_for q H (live_at v H)) ≡ map (firing_at f) (filter isLate (standing_for q R (live_at w R)))
+    pub stand_live : (v w : ℤ) → v ≡ w → filter fires_late (standing_for q H (live_at v H)) ≡ map (firing_at f) (filter fires_late (standing_for q R (live_at w R)))
     stand_live v w is =
         let serves = beyond_serves q ok q.clock.records x in
         stand_same (live_at v H) (live_at w R) (each_live v H) (each_live w R)
@@ -176,7 +176,7 @@ module _ (q : Query) (gap : ℤ) (sessions : q.shape ≡ Session gap) (ok : IsSh
   -- ---- what an event withdraws
 
   -- one that both have
-  withdrawn_same : (steps : List Step) (e : Event) → May (Stays e ∷ steps) → filter isLate (withdrawn q (whole steps []) e) ≡ map (firing_at (turn [] [] 0 steps)) (filter isLate (withdrawn q (rest steps []) e))
+  withdrawn_same : (steps : List Step) (e : Event) → May (Stays e ∷ steps) → filter fires_late (withdrawn q (whole steps []) e) ≡ map (firing_at (turn [] [] 0 steps)) (filter fires_late (withdrawn q (rest steps []) e))
   withdrawn_same steps e may =
       let before : May steps = (beyond_serves q ok q.clock.records x).stays e steps may in
       let f : ℕ → ℕ = turn [] [] 0 steps in
@@ -191,7 +191,7 @@ module _ (q : Query) (gap : ℤ) (sessions : q.shape ≡ Session gap) (ok : IsSh
       (stand_live (Stays e ∷ steps) may f (rising-turn [] [] 0 steps) turns v w same)
 
   -- and one that is left out
-  withdrawn_none : (steps : List Step) (e : Event) → May (Goes e ∷ steps) → filter isLate (withdrawn q (whole steps []) e) ≡ []
+  withdrawn_none : (steps : List Step) (e : Event) → May (Goes e ∷ steps) → filter fires_late (withdrawn q (whole steps []) e) ≡ []
   withdrawn_none steps e may =
       let before : May steps = (beyond_serves q ok q.clock.records x).goes e steps may in
       let f : ℕ → ℕ = turn [] [] 0 (Goes e ∷ steps) in
@@ -211,17 +211,17 @@ module _ (q : Query) (gap : ℤ) (sessions : q.shape ≡ Session gap) (ok : IsSh
   abbrev rows_for : List Firing → List OutRow
   rows_for fs = retracted (filter_map (written_of q) fs)
 
-  written_late : (g : Firing) (y : Written) → written_of q g ≡ Some y → late y.0 ≡ isLate g
+  written_late : (g : Firing) (y : Written) → written_of q g ≡ Some y → late y.0 ≡ fires_late g
   written_late g y h = by_columns (q.row g.place.key g.fired) h where
-    by_columns : (o : Option (List Cell)) → option_map (λ columns. (g.place, columns)) o ≡ Some y → late y.0 ≡ isLate g
+    by_columns : (o : Option (List Cell)) → option_map (λ columns. (g.place, columns)) o ≡ Some y → late y.0 ≡ fires_late g
     by_columns None h = absurd (not_some y (sym h))
     by_columns (Some columns) h = ap (λ (w : Written). late w.0) (sym (same_Some (g.place, columns) y h))
 
-  rows_late : (fs : List Firing) → beyond (rows_for fs) ≡ rows_for (filter isLate fs)
+  rows_late : (fs : List Firing) → beyond (rows_for fs) ≡ rows_for (filter fires_late fs)
   rows_late fs =
       let ws : List Written = filter_map (written_of q) fs in
       filter-map retract_row (is_row_at late) (by_place ws)
-      ∙ ap (map retract_row) (filter-by_place (λ w. late w.0) ws ∙ ap by_place (filter-given (written_of q) (λ w. late w.0) isLate written_late fs))
+      ∙ ap (map retract_row) (filter-by_place (λ w. late w.0) ws ∙ ap by_place (filter-given (written_of q) (λ w. late w.0) fires_late written_late fs))
 
   pub retracts_same : IgnoresTurns q → (mode : Mode) (steps : List Step) (e : Event) → May (Stays e ∷ steps) → beyond (retract_rows mode q (whole steps []) e) ≡ beyond (retract_rows mode q (rest steps []) e)
   retracts_same ignores Discarding steps e may = refl
@@ -230,7 +230,7 @@ module _ (q : Query) (gap : ℤ) (sessions : q.shape ≡ Session gap) (ok : IsSh
       rows_late (withdrawn q (whole steps []) e)
       ∙ ap retracted (
       ap (filter_map (written_of q)) (withdrawn_same steps e may)
-      ∙ given_alike (written_of q) (turn [] [] 0 steps) (written_turned q ignores (turn [] [] 0 steps)) (filter isLate (withdrawn q (rest steps []) e)))
+      ∙ given_alike (written_of q) (turn [] [] 0 steps) (written_turned q ignores (turn [] [] 0 steps)) (filter fires_late (withdrawn q (rest steps []) e)))
       ∙ sym (rows_late (withdrawn q (rest steps []) e))
 
   pub retracts_none : (mode : Mode) (steps : List Step) (e : Event) → May (Goes e ∷ steps) → beyond (retract_rows mode q (whole steps []) e) ≡ []
@@ -245,7 +245,7 @@ module _ (q : Query) (gap : ℤ) (sessions : q.shape ≡ Session gap) (ok : IsSh
   retracts_late Retracting past e all =
       let now : List Firing = standing_for q (e ∷ past) (panes_before_drops q past e) in
       rows_late (withdrawn q past e)
-      ∙ ap rows_for (all_of isLate (withdrawn q past e)
-      (filter-all (λ g. isLate g ≡ true) (λ g. not (list_any (is_same g) now)) (standing_for q past (held q past))
-      (filter_map-all (IsPane q past) (λ g. isLate g ≡ true) (λ y. standing q (firings_so_far q past) y.0 y.1) (λ y pane g h. stands_beyond q gap sessions ok timely x past y pane (all y pane) g h)
+      ∙ ap rows_for (all_of fires_late (withdrawn q past e)
+      (filter-all (λ g. fires_late g ≡ true) (λ g. not (list_any (is_same g) now)) (standing_for q past (held q past))
+      (filter_map-all (IsPane q past) (λ g. fires_late g ≡ true) (λ y. standing q (firings_so_far q past) y.0 y.1) (λ y pane g h. stands_beyond q gap sessions ok timely x past y pane (all y pane) g h)
       (held q past) (each_live (mark q past) past))))

@@ -49,11 +49,11 @@ all_of_joined = refl
 
 of_those_joined : rows_beyond (dropped_times retracting joined) (rows_so_far retracting joined)
     ≡ Pane OnTime 0 (window (pos 40) (pos 50)) (ints (1 ∷ 3 ∷ []))
-        ∷ Pane OnTime 0 (window (pos 52) (pos 62)) (ints (1 ∷ 4 ∷ []))
-        ∷ Retract 0 (window (pos 40) (pos 50)) (ints (1 ∷ 3 ∷ []))
-        ∷ Retract 0 (window (pos 52) (pos 62)) (ints (1 ∷ 4 ∷ []))
-        ∷ Pane Late 0 (window (pos 40) (pos 62)) (ints (3 ∷ 12 ∷ []))
-        ∷ []
+    ∷ Pane OnTime 0 (window (pos 52) (pos 62)) (ints (1 ∷ 4 ∷ []))
+    ∷ Retract 0 (window (pos 40) (pos 50)) (ints (1 ∷ 3 ∷ []))
+    ∷ Retract 0 (window (pos 52) (pos 62)) (ints (1 ∷ 4 ∷ []))
+    ∷ Pane Late 0 (window (pos 40) (pos 62)) (ints (3 ∷ 12 ∷ []))
+    ∷ []
 of_those_joined = refl
 
 joined_by_needed : (needed retracting joined ≡ past_of (w 20 ∷ a 40 3 ∷ a 52 4 ∷ w 62 ∷ a 45 5 ∷ [])) × (length (rows_so_far retracting (needed retracting joined)) ≡ 5)

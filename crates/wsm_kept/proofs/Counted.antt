@@ -1,13 +1,12 @@
 -- Rows of sessions are counted as they are written: what is told of them, and what a run over the rows that stay comes to.
-use Rattle.std.proofs.Common.{◌≡◌, ℕ, ◌+◌, Bool, true, ◌&&◌, not, List, [], ◌∷◌, ◌++◌, length, map, Ok, Err, refl, sym, ap, subst, ◌∙◌, length-append}
-use Rattle.std.proofs.lemmas.Bool.{true≢false, and_parts, not-true}
+use Rattle.std.proofs.Common.{◌≡◌, ℕ, ◌+◌, Bool, true, ◌&&◌, List, [], ◌∷◌, ◌++◌, length, map, Ok, Err, refl, sym, ap, subst, ◌∙◌, length-append}
+use Rattle.std.proofs.lemmas.Bool.{true≢false, and_parts}
 use Rattle.std.proofs.lemmas.List.{length-map}
 use Rattle.csv.specs.Writing.{default_writer, row_text}
 use Rattle.wsm_record.specs.declared.event.RowFault.TheVariants.{BadTag}
 use Rattle.wsm_record.specs.declared.words.Form.{Form}
 use Rattle.wsm_record.specs.declared.words.Form.TheVariants.{Panes, Istream, Dstream, Rstream}
 use Rattle.wsm_record.specs.Event.{Event}
-use Rattle.wsm_record.specs.Modes.{retracts}
 use Rattle.wsm_admission.specs.Admission.{counter}
 use Rattle.wsm_admission.specs.Clock.{admitted_count}
 use Rattle.wsm_semantics.specs.declared.out_row.OutRow.{OutRow}
@@ -49,9 +48,8 @@ of_form Rstream h = absurd (true≢false (sym h))
 pub of_sessions : (p : Program) → writes_sessions p.header ≡ true → WritesSessions (query_of p)
 of_sessions p is =
     let h : Header = p.header in
-    let parts = and_parts (are_sessions h.shape) (not (retracts h.mode) && is_panes h.form) is in
-    let others = and_parts (not (retracts h.mode)) (is_panes h.form) parts.1 in
-    record { shape = parts.0; mode = not-true (retracts h.mode) others.0; form = of_form h.form others.1 }
+    let parts = and_parts (are_sessions h.shape) (is_panes h.form) is in
+    record { shape = parts.0; form = of_form h.form parts.1 }
 
 -- ---- what is told
 

@@ -1,8 +1,7 @@
 -- What a run over the rows that stay comes to.
-use Rattle.std.specs.Prelude.{◌≡◌, Bool, true, false, ◌&&◌, not, List, length, map, IsTrue}
+use Rattle.std.specs.Prelude.{◌≡◌, Bool, true, false, ◌&&◌, List, length, map, IsTrue}
 use Rattle.wsm_record.specs.declared.words.Form.{Form}
 use Rattle.wsm_record.specs.declared.words.Form.TheVariants.{Panes}
-use Rattle.wsm_record.specs.Modes.{retracts}
 use Rattle.wsm_semantics.specs.FromWatermark.{dropped_times}
 use Rattle.wsm_semantics.specs.LastingRows.{rows_so_far}
 use Rattle.wsm_program.specs.Program.{Header, Program, is_program}
@@ -18,9 +17,9 @@ abbrev pub is_panes : Form → Bool
 is_panes Panes = true
 is_panes form = false
 
--- panes of sessions are written, and none is withdrawn
+-- panes of sessions are written
 abbrev pub writes_sessions : Header → Bool
-writes_sessions h = are_sessions h.shape && (not (retracts h.mode) && is_panes h.form)
+writes_sessions h = are_sessions h.shape && is_panes h.form
 
 -- what remains are the rows that stay; and of sessions so many rows were written as by a run over them
 pub record HasStaying (p : Program) (past : List Cells) (remains : Remains) : Type 0 where

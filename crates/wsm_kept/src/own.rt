@@ -43,13 +43,13 @@ pub fn own_counts(
     counts_over(alloc, verified, text)
 }
 
-/// Whether a program writes panes of sessions, and withdraws none: then rows that stay write as many as were written for the
-/// sessions in which they stand.
+/// Whether a program writes panes of sessions: then rows that stay write and withdraw as many as were written and withdrawn for
+/// the sessions in which they stand.
 pub fn writes_sessions(verified: &Verified) -> bool
     ensures { result ≡ spec.writes_sessions verified.now.header }
 {
     let header = verified.program().header();
-    are_sessions(header.shape) && !header.mode.retracts() && header.form == Form::Panes
+    are_sessions(header.shape) && header.form == Form::Panes
 }
 
 fn are_sessions(shape: Shape) -> bool
