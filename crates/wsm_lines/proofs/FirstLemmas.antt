@@ -5,6 +5,7 @@ use Rattle.wsm_record.specs.Schema.{Declared}
 use Rattle.wsm_parts.specs.Csv.{cells_of, columns_of}
 use Rattle.wsm_lines.specs.Fault.{on_ok}
 use Rattle.wsm_lines.specs.Heading.{Heading, unread, broken, known, headed_in, heading_by, heading_in, is_unread, of_cells, with_columns}
+use Rattle.wsm_lines.specs.Key.{key_by}
 use Rattle.wsm_lines.specs.Said.{clock_by, event_by, identifier_by, is_first, said_of, taken_in, taken_of, taken_under}
 use Rattle.wsm_lines.specs.Text.{bare, text_in}
 use Rattle.wsm_lines.specs.declared.fault.LineFault.{LineFault}
@@ -54,3 +55,7 @@ identifier_of-under s held before line text h same above is =
 pub clock_of-under : (s held : Source) (before : List (List ℕ)) (line text : List ℕ) (h : Heading) → held ≡ s → h ≡ heading_in s.format s.longest before → text ≡ bare line → clock_by s (taken_of s before line) ≡ clock_by held (taken_under held h text)
 clock_of-under s held before line text h same above is =
     sym (ap (λ x. clock_by x (taken_under x h text)) same ∙ ap (clock_by s) (taken_of-under s before line text h above is))
+
+pub key_text_of-under : (s held : Source) (before : List (List ℕ)) (line text : List ℕ) (h : Heading) → held ≡ s → h ≡ heading_in s.format s.longest before → text ≡ bare line → key_by s (taken_of s before line) ≡ key_by held (taken_under held h text)
+key_text_of-under s held before line text h same above is =
+    sym (ap (λ x. key_by x (taken_under x h text)) same ∙ ap (key_by s) (taken_of-under s before line text h above is))

@@ -7,6 +7,7 @@ use Rattle.std.proofs.lemmas.Bool.Decides.{leb_tells}
 use Rattle.wsm_record.specs.Schema.{Declared}
 use Rattle.wsm_lines.specs.Fault.{on_ok, or_none}
 use Rattle.wsm_lines.specs.Heading.{heading_in, headed_in, heading_by, Heading, unread, broken, known}
+use Rattle.wsm_lines.specs.Key.{if_told, key_by, key_text_of}
 use Rattle.wsm_lines.specs.Said.{clock_by, clock_of, event_by, identifier_by, identifier_of, is_first, said_of, taken_in, taken_of}
 use Rattle.wsm_lines.specs.Text.{bare, kept, text_in, unmarked, utf8_in}
 use Rattle.wsm_lines.specs.declared.fault.LineFault.TheVariants.{TooLong}
@@ -76,3 +77,6 @@ identifier_of-all-kept s before line = ap (λ t. or_none (identifier_by s t)) (t
 
 pub clock_of-all-kept : (s : Source) (before : List (List ℕ)) (line : List ℕ) → clock_of s (map (kept s.longest) before) (kept s.longest line) ≡ clock_of s before line
 clock_of-all-kept s before line = ap (λ t. or_none (clock_by s t)) (taken_of-all-kept s before line)
+
+pub key_text_of-all-kept : (s : Source) (before : List (List ℕ)) (line : List ℕ) → key_text_of s (map (kept s.longest) before) (kept s.longest line) ≡ key_text_of s before line
+key_text_of-all-kept s before line = ap (λ t. if_told (key_by s t)) (taken_of-all-kept s before line)

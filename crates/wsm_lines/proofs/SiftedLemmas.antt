@@ -13,6 +13,7 @@ use Rattle.wsm_lines.specs.ClockName.{clock_at, clock_in}
 use Rattle.wsm_lines.specs.Event.{event_in, field_in, key_named, text_of, time_in, values_from}
 use Rattle.wsm_lines.specs.Fault.{on_ok, or_fault}
 use Rattle.wsm_lines.specs.Identifier.{identifier_at, identifier_in}
+use Rattle.wsm_lines.specs.Key.{key_at, key_by, key_in}
 use Rattle.wsm_lines.specs.Members.{PassesSource, passes, passes_fields, passes_first, passes_maybe, passes_place, passing, sifted}
 use Rattle.wsm_lines.specs.Said.{clock_by, event_by, identifier_by, taken_json}
 use Rattle.wsm_lines.specs.Scalar.{json, found_at, of_found, of_json, scalar_at}
@@ -115,3 +116,11 @@ module _ (b : List Bool) where
         by : (o : Option Json) → option_map (sifted b) o ≡ Some v → clock_by s (or_fault NotJson (option_map json o)) ≡ Ok (clock_at s.clock (json v))
         by None e = absurd (none_is v e)
         by (Some j) e = ap Ok (sym (clock_sifted s.clock j h.clock)) ∙ ap (λ o. clock_by s (or_fault NotJson (option_map json o))) e
+
+    pub key_by-sifted : (text : Result (List ℕ) LineFault) (t : List ℕ) (v : Json) → text ≡ Ok t → option_map (sifted b) (document t) ≡ Some v
+        → key_by s (on_ok text taken_json) ≡ key_at s.key (json v)
+    key_by-sifted text t v is seen = ap (λ x. key_by s (on_ok x taken_json)) is ∙ by (document t) seen
+      where
+        by : (o : Option Json) → option_map (sifted b) o ≡ Some v → key_by s (or_fault NotJson (option_map json o)) ≡ key_at s.key (json v)
+        by None e = absurd (none_is v e)
+        by (Some j) e = sym (ap (λ x. on_ok (text_of NoKey BadKey x) key_in) (scalar_sifted s.key.at j h.key)) ∙ ap (λ o. key_by s (or_fault NotJson (option_map json o))) e

@@ -9,6 +9,7 @@ pub mod ClockName
 pub mod Event
 pub mod InPlace
 pub mod Said
+pub mod Key
 pub mod Members
 pub mod Reading
 pub mod Reader

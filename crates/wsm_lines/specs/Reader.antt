@@ -19,6 +19,10 @@ identifier_read r = identifier_held r.reading.identifier
 abbrev pub clock_read : LineReader → Option (List ℕ)
 clock_read r = identifier_held r.reading.clock
 
+-- the text of the key that was looked up later last
+abbrev pub key_read : LineReader → List ℕ
+key_read r = r.reading.key
+
 -- a reader by a source that read these lines, the newest first
 pub record Follows (s : Source) (before : List (List ℕ)) (r : LineReader) : Type 0 where
   pub source : r.source ≡ s

@@ -1,17 +1,20 @@
 //! From a line taken apart to an event.
-ghost use Rattle.std.specs.Prelude.{◌≡◌, IfErr, OnOk, Err, Ok, Some};
+ghost use Rattle.std.specs.Prelude.{◌≡◌, IfErr, OnOk, Err, Ok, Some, bytes_eq, position};
 ghost use Rattle.std.specs.Result.{result_map_both};
 ghost use Rattle.wsm_record.specs.Event.{Record, event_of};
-ghost use Rattle.wsm_lines.specs.Event.{decimal_in, field_in, field_value, has_line_feed, is_key, key_named, key_number, key_of, bad_kind, or_other, record_in, text_of, time_at, time_in, truth_of, value_in, values_of, word_in};
+ghost use Rattle.wsm_lines.specs.Event.{decimal_in, field_in, field_value, has_line_feed, is_key, key_number, key_of, bad_kind, or_other, record_in, text_of, time_at, time_in, truth_of, value_in, values_of, word_in};
 ghost use Rattle.wsm_lines.specs.Fault.{IfFault, or_fault};
 ghost use Rattle.wsm_lines.specs.InPlace.{values_held};
+ghost use Rattle.wsm_lines.specs.Key.{declared_by, key_at};
 ghost use Rattle.wsm_lines.specs.Seen.{scalar_seen, taken_seen};
 
 use crate::fault::{LineFault, LineRefusal};
+use crate::lookup::Lookup;
 use crate::scalar::{Scalar, Taken, scalar_at};
+use crate::short_text::ShortText;
 use crate::source::{BoolWords, Field, KeyForm, KeyNames, Kind, Source, TimeAt};
 use std::alloc::Global;
-use wsm_record::{Event, Schema, Value};
+use wsm_record::{Event, Value};
 use wsm_values::{DecimalForm, decimal_of, plain, time_of};
 
 /// The most bytes of a key.
@@ -60,20 +63,36 @@ fn or_other(other: Option<u16>, found: Option<u16>) -> Option<u16>
     }
 }
 
+// The number of the key of this name.
+fn number_in(lookup: Lookup<'_>, text: &[u8]) -> Option<u32>
+    ensures { result ≡ position (bytes_eq text.now) (declared_by lookup).keys }
+{
+    match lookup {
+        Lookup::In(schema) => schema.key_number(text),
+        Lookup::Later => None,
+    }
+}
+
 // The number of the key that a text names.
-fn key_number(names: &KeyNames, schema: &Schema, text: &[u8]) -> Option<u32>
-    ensures { result ≡ key_number names.now schema.now text.now }
+fn key_number(names: &KeyNames, lookup: Lookup<'_>, text: &[u8]) -> Option<u32>
+    ensures { result ≡ key_number names.now (declared_by lookup) text.now }
 {
     match names {
-        KeyNames::Same => schema.key_number(text),
+        KeyNames::Same => number_in(lookup, text),
         KeyNames::Table(table, other) => or_other(*other, table.number_of(text)).map(u32::from),
         KeyNames::Prefixes(prefixes, other) => or_other(*other, prefixes.number_of(text)).map(u32::from),
     }
 }
 
-// The key of a line.
-fn key_of(key: &KeyForm, schema: &Schema, taken: &Taken<'_>) -> Result<Option<u32>, LineFault>
-    ensures { result ≡ key_of key.now schema.now (taken_seen taken.now) }
+// Reads the key of a line. Where it is looked up later its text stands there in place of another.
+fn read_key(
+    key: &KeyForm,
+    lookup: Lookup<'_>,
+    taken: &Taken<'_>,
+    kept: &mut ShortText,
+) -> Result<Option<u32>, LineFault>
+    ensures number { result ≡ key_of key.now (declared_by lookup) (taken_seen taken.now) }
+    ensures kept { lookup ≡ Lookup.Later → OnOk result (key_at key.now (taken_seen taken.now) ≡ Ok kept.new) }
 {
     let text = match text_of(
         LineFault::NoKey,
@@ -83,11 +102,13 @@ fn key_of(key: &KeyForm, schema: &Schema, taken: &Taken<'_>) -> Result<Option<u3
         Ok(text) => text,
         Err(fault) => return Err(fault),
     };
-    if is_key(text) {
-        Ok(key_number(&key.names, schema, text))
-    } else {
-        Err(LineFault::BadKey)
+    if !is_key(text) {
+        return Err(LineFault::BadKey);
     }
+    if let Lookup::Later = lookup {
+        kept.set(text);
+    }
+    Ok(key_number(&key.names, lookup, text))
 }
 
 // The time of a text.
@@ -236,18 +257,21 @@ fn begin_record(alloc: Global, event: &mut Event, key: Option<u32>, time: i64)
     }
 }
 
-/// Reads the record of a line in place of another event.
+/// Reads the record of a line in place of another event. Where its key is looked up later the key's text
+/// stands there in place of another.
 pub(crate) fn read_record(
     alloc: Global,
     source: &Source,
-    schema: &Schema,
+    lookup: Lookup<'_>,
     taken: &Taken<'_>,
     event: &mut Event,
+    kept: &mut ShortText,
 ) -> Result<(), LineRefusal>
-    ensures event { OnOk result (record_in source.now schema.now (taken_seen taken.now) ≡ Ok (event_of event.new)) }
-    ensures fault { IfErr result (λ r. IfFault r (λ f. record_in source.now schema.now (taken_seen taken.now) ≡ Err f)) }
+    ensures event { OnOk result (record_in source.now (declared_by lookup) (taken_seen taken.now) ≡ Ok (event_of event.new)) }
+    ensures key { lookup ≡ Lookup.Later → OnOk result (key_at source.now.key (taken_seen taken.now) ≡ Ok kept.new) }
+    ensures fault { IfErr result (λ r. IfFault r (λ f. record_in source.now (declared_by lookup) (taken_seen taken.now) ≡ Err f)) }
 {
-    let key = key_of(&source.key, schema, taken)?;
+    let key = read_key(&source.key, lookup, taken, kept)?;
     let time = time_at(&source.time, taken)?;
     begin_record(alloc, event, key, time);
     match event {

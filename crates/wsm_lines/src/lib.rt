@@ -35,6 +35,7 @@ mod heading;
 mod identifier;
 mod laws;
 mod line;
+mod lookup;
 mod members;
 mod name_filter;
 mod reader;

@@ -5,17 +5,19 @@ ghost use Rattle.wsm_lines.specs.ClockName.{clock_at};
 ghost use Rattle.wsm_lines.specs.Event.{event_in};
 ghost use Rattle.wsm_lines.specs.Fault.{IfFault};
 ghost use Rattle.wsm_lines.specs.Identifier.{identifier_at, identifier_held};
+ghost use Rattle.wsm_lines.specs.Key.{declared_by, key_at};
 ghost use Rattle.wsm_lines.specs.Seen.{taken_seen};
 
 use crate::clock_name::read_clock;
 use crate::event::read_record;
 use crate::fault::LineRefusal;
 use crate::identifier::read_identifier;
+use crate::lookup::Lookup;
 use crate::scalar::Taken;
 use crate::short_text::ShortText;
 use crate::source::Source;
 use std::alloc::Global;
-use wsm_record::{Event, Schema};
+use wsm_record::Event;
 
 /// What was read of a line. It keeps its room from line to line.
 #[derive(Drop)]
@@ -26,23 +28,33 @@ pub struct Reading {
     pub identifier: ShortText,
     /// The bytes of the clock's name: none where the line names no clock.
     pub clock: ShortText,
+    /// The bytes of the text of the key that was looked up later last.
+    pub key: ShortText,
 }
 
 /// Reads what a line says, its event, its identifier and the clock that it names, in place of what was
-/// read.
+/// read. Where the key is looked up later its text stands there too.
 pub(crate) fn read_taken(
     alloc: Global,
     source: &Source,
-    schema: &Schema,
+    lookup: Lookup<'_>,
     taken: &Taken<'_>,
     reading: &mut Reading,
 ) -> Result<(), LineRefusal>
-    ensures event { OnOk result (event_in source.now schema.now (taken_seen taken.now) ≡ Ok (event_of reading.new.event)) }
+    ensures event { OnOk result (event_in source.now (declared_by lookup) (taken_seen taken.now) ≡ Ok (event_of reading.new.event)) }
     ensures identifier { OnOk result (identifier_at source.now.identifier (taken_seen taken.now) ≡ Ok (identifier_held reading.new.identifier)) }
+    ensures key { lookup ≡ Lookup.Later → OnOk result (key_at source.now.key (taken_seen taken.now) ≡ Ok reading.new.key) }
     ensures clock { OnOk result (clock_at source.now.clock (taken_seen taken.now) ≡ identifier_held reading.new.clock) }
-    ensures fault { IfErr result (λ r. IfFault r (λ f. event_in source.now schema.now (taken_seen taken.now) ≡ Err f)) }
+    ensures fault { IfErr result (λ r. IfFault r (λ f. event_in source.now (declared_by lookup) (taken_seen taken.now) ≡ Err f)) }
 {
-    read_record(alloc, source, schema, taken, &mut reading.event)?;
+    read_record(
+        alloc,
+        source,
+        lookup,
+        taken,
+        &mut reading.event,
+        &mut reading.key,
+    )?;
     read_identifier(&source.identifier, taken, &mut reading.identifier)?;
     read_clock(&source.clock, taken, &mut reading.clock);
     Ok(())

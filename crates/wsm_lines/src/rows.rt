@@ -3,13 +3,15 @@ ghost use Rattle.std.specs.Prelude.{◌≡◌, ◌≢◌, IfErr, OnOk, Err, fals
 ghost use Rattle.wsm_parts.specs.Csv.{cells_of};
 ghost use Rattle.wsm_lines.specs.Fault.{IfFault, on_ok};
 ghost use Rattle.wsm_lines.specs.Heading.{headed, is_unread};
-ghost use Rattle.wsm_lines.specs.Reading.{HoldsClock, HoldsEvent, HoldsIdentifier, TellsFault};
+ghost use Rattle.wsm_lines.specs.Key.{declared_by};
+ghost use Rattle.wsm_lines.specs.Reading.{HoldsClock, HoldsEvent, HoldsIdentifier, HoldsKey, TellsFault};
 ghost use Rattle.wsm_lines.specs.Said.{taken_below, taken_row};
 ghost use Rattle.wsm_lines.specs.Seen.{header_seen, heading_seen};
 ghost use Rattle.wsm_lines.specs.Text.{text_in};
 
 use crate::fault::{LineFault, LineRefusal};
 use crate::heading::{Header, Heading, read_first};
+use crate::lookup::Lookup;
 use crate::reading::{Reading, read_taken};
 use crate::room::Room;
 use crate::scalar::Taken;
@@ -17,26 +19,26 @@ use crate::source::{CsvForm, Source};
 use crate::text::text_in;
 use std::alloc::Global;
 use wsm_parts::find_cells;
-use wsm_record::Schema;
 
 // Reads what a row below a header says.
 fn read_row(
     alloc: Global,
     source: &Source,
     separator: u8,
-    schema: &Schema,
+    lookup: Lookup<'_>,
     header: &Header,
     text: &[u8],
     room: &mut Room,
     reading: &mut Reading,
 ) -> Result<(), LineRefusal>
-    ensures event { OnOk result (HoldsEvent source.now schema.now
+    ensures event { OnOk result (HoldsEvent source.now (declared_by lookup)
         (taken_row header.now.columns.items header.now.count (cells_of separator text.now)) reading.new) }
     ensures identifier { OnOk result
         (HoldsIdentifier source.now (taken_row header.now.columns.items header.now.count (cells_of separator text.now)) reading.new) }
+    ensures key { lookup ≡ Lookup.Later → OnOk result (HoldsKey source.now (taken_row header.now.columns.items header.now.count (cells_of separator text.now)) reading.new) }
     ensures clock { OnOk result (HoldsClock source.now (taken_row header.now.columns.items header.now.count (cells_of separator text.now)) reading.new) }
     ensures fault { IfErr result (λ r. IfFault r
-        (TellsFault source.now schema.now (taken_row header.now.columns.items header.now.count (cells_of separator text.now)))) }
+        (TellsFault source.now (declared_by lookup) (taken_row header.now.columns.items header.now.count (cells_of separator text.now)))) }
 {
     if !find_cells(separator, text, &mut room.spans)? {
         return Err(LineRefusal::Fault(LineFault::NotCsv));
@@ -45,7 +47,7 @@ fn read_row(
         return Err(LineRefusal::Fault(LineFault::CellCount));
     }
     room.texts.read(alloc, text, &room.spans, &header.columns)?;
-    read_taken(alloc, source, schema, &Taken::Csv(&room.texts), reading)
+    read_taken(alloc, source, lookup, &Taken::Csv(&room.texts), reading)
 }
 
 // Reads what a line below a header says.
@@ -53,20 +55,22 @@ fn read_below(
     alloc: Global,
     source: &Source,
     form: &CsvForm,
-    schema: &Schema,
+    lookup: Lookup<'_>,
     header: &Header,
     line: &[u8],
     room: &mut Room,
     reading: &mut Reading,
 ) -> Result<(), LineRefusal>
-    ensures event { OnOk result (HoldsEvent source.now schema.now
+    ensures event { OnOk result (HoldsEvent source.now (declared_by lookup)
         (on_ok (text_in false source.now.longest line.now) (taken_below form.now (header_seen header.now))) reading.new) }
     ensures identifier { OnOk result
         (HoldsIdentifier source.now (on_ok (text_in false source.now.longest line.now) (taken_below form.now (header_seen header.now))) reading.new) }
+    ensures key { lookup ≡ Lookup.Later → OnOk result (HoldsKey source.now
+        (on_ok (text_in false source.now.longest line.now) (taken_below form.now (header_seen header.now))) reading.new) }
     ensures clock { OnOk result (HoldsClock source.now
         (on_ok (text_in false source.now.longest line.now) (taken_below form.now (header_seen header.now))) reading.new) }
     ensures fault { IfErr result (λ r. IfFault r
-        (TellsFault source.now schema.now (on_ok (text_in false source.now.longest line.now) (taken_below form.now (header_seen header.now))))) }
+        (TellsFault source.now (declared_by lookup) (on_ok (text_in false source.now.longest line.now) (taken_below form.now (header_seen header.now))))) }
 {
     let text = text_in(false, source.longest, line)?.as_bytes();
     if text == header.text.as_slice() {
@@ -76,7 +80,7 @@ fn read_below(
         alloc,
         source,
         form.separator,
-        schema,
+        lookup,
         header,
         text,
         room,
@@ -89,21 +93,23 @@ pub(crate) fn read_csv(
     alloc: Global,
     source: &Source,
     form: &CsvForm,
-    schema: &Schema,
+    lookup: Lookup<'_>,
     line: &[u8],
     heading: &mut Heading,
     room: &mut Room,
     reading: &mut Reading,
 ) -> Result<(), LineRefusal>
-    ensures event { OnOk result (HoldsEvent source.now schema.now
+    ensures event { OnOk result (HoldsEvent source.now (declared_by lookup)
         (on_ok (text_in (is_unread (heading_seen heading.old)) source.now.longest line.now) (taken_below form.now (heading_seen heading.old))) reading.new) }
     ensures identifier { OnOk result
         (HoldsIdentifier source.now
         (on_ok (text_in (is_unread (heading_seen heading.old)) source.now.longest line.now) (taken_below form.now (heading_seen heading.old))) reading.new) }
+    ensures key { lookup ≡ Lookup.Later → OnOk result (HoldsKey source.now
+        (on_ok (text_in (is_unread (heading_seen heading.old)) source.now.longest line.now) (taken_below form.now (heading_seen heading.old))) reading.new) }
     ensures clock { OnOk result (HoldsClock source.now
         (on_ok (text_in (is_unread (heading_seen heading.old)) source.now.longest line.now) (taken_below form.now (heading_seen heading.old))) reading.new) }
     ensures fault { IfErr result (λ r. IfFault r
-        (TellsFault source.now schema.now
+        (TellsFault source.now (declared_by lookup)
         (on_ok (text_in (is_unread (heading_seen heading.old)) source.now.longest line.now) (taken_below form.now (heading_seen heading.old))))) }
     ensures heading { result ≢ Err LineRefusal.Memory → heading_seen heading.new ≡ headed form.now source.now.longest (heading_seen heading.old) line.now }
 {
@@ -117,7 +123,7 @@ pub(crate) fn read_csv(
             Err(LineRefusal::Fault(LineFault::BadHeader))
         }
         Heading::Known(header) => read_below(
-            alloc, source, form, schema, header, line, room, reading,
+            alloc, source, form, lookup, header, line, room, reading,
         ),
     }
 }

@@ -88,6 +88,17 @@ pub enum KeyNames {
     Prefixes(Prefixes, Option<u16>),
 }
 
+impl KeyNames {
+    ghost use Rattle.wsm_lines.specs.Key.{are_same};
+
+    /// Whether a key is named by its own text.
+    pub fn are_same(&self) -> bool
+        ensures { result ≡ are_same self.now }
+    {
+        matches!(self, KeyNames::Same)
+    }
+}
+
 /// Where a time stands, and how it is read.
 #[derive(Drop)]
 pub struct TimeAt {

@@ -1,11 +1,13 @@
 //! Lines that are rows of a query's own form.
 ghost use Rattle.std.specs.Prelude.{◌≡◌, IfErr, IfOk, OnOk, length};
 ghost use Rattle.wsm_lines.specs.Fault.{IfFault, on_ok};
-ghost use Rattle.wsm_lines.specs.Reading.{HoldsClock, HoldsEvent, HoldsIdentifier, TellsFault};
+ghost use Rattle.wsm_lines.specs.Key.{declared_by};
+ghost use Rattle.wsm_lines.specs.Reading.{HoldsClock, HoldsEvent, HoldsIdentifier, HoldsKey, TellsFault};
 ghost use Rattle.wsm_lines.specs.Said.{if_record, taken_record};
 ghost use Rattle.wsm_lines.specs.Text.{text_in};
 
 use crate::fault::{LineFault, LineRefusal};
+use crate::lookup::Lookup;
 use crate::reading::{Reading, read_taken};
 use crate::room::Room;
 use crate::scalar::Taken;
@@ -13,7 +15,6 @@ use crate::source::{Field, Source};
 use crate::text::text_in;
 use std::alloc::{AllocError, Global};
 use wsm_parts::{Span, Texts, find_cells};
-use wsm_record::Schema;
 
 /// What stands between the cells of a row.
 const SEPARATOR: u8 = b',';
@@ -45,25 +46,27 @@ fn take_record(
 pub(crate) fn read_tagged_row(
     alloc: Global,
     source: &Source,
-    schema: &Schema,
+    lookup: Lookup<'_>,
     first: bool,
     line: &[u8],
     room: &mut Room,
     reading: &mut Reading,
 ) -> Result<(), LineRefusal>
-    ensures event { OnOk result (HoldsEvent source.now schema.now
+    ensures event { OnOk result (HoldsEvent source.now (declared_by lookup)
         (on_ok (text_in first source.now.longest line.now) (taken_record (length source.now.fields))) reading.new) }
     ensures identifier { OnOk result
         (HoldsIdentifier source.now (on_ok (text_in first source.now.longest line.now) (taken_record (length source.now.fields))) reading.new) }
+    ensures key { lookup ≡ Lookup.Later → OnOk result (HoldsKey source.now
+        (on_ok (text_in first source.now.longest line.now) (taken_record (length source.now.fields))) reading.new) }
     ensures clock { OnOk result (HoldsClock source.now
         (on_ok (text_in first source.now.longest line.now) (taken_record (length source.now.fields))) reading.new) }
     ensures fault { IfErr result (λ r. IfFault r
-        (TellsFault source.now schema.now (on_ok (text_in first source.now.longest line.now) (taken_record (length source.now.fields))))) }
+        (TellsFault source.now (declared_by lookup) (on_ok (text_in first source.now.longest line.now) (taken_record (length source.now.fields))))) }
 {
     let text = text_in(first, source.longest, line)?.as_bytes();
     let fields = source.fields.items();
     if take_record(alloc, fields, text, &mut room.spans, &mut room.texts)? {
-        read_taken(alloc, source, schema, &Taken::Csv(&room.texts), reading)
+        read_taken(alloc, source, lookup, &Taken::Csv(&room.texts), reading)
     } else {
         Err(LineRefusal::Fault(LineFault::NotRow))
     }

@@ -1,4 +1,4 @@
-use Rattle.wsm_lines.proofs.KeptLemmas.{clock_of-all-kept, identifier_of-all-kept, said_of-all-kept, said_of-kept}
+use Rattle.wsm_lines.proofs.KeptLemmas.{clock_of-all-kept, identifier_of-all-kept, key_text_of-all-kept, said_of-all-kept, said_of-kept}
 use Rattle.wsm_lines.proofs.laws.beginnings_tell.Goals as goal
 
 pub returns-clause-all : goal.returns-clause-all
@@ -12,3 +12,6 @@ returns-clause-identifiers c = identifier_of-all-kept
 
 pub returns-clause-clocks : goal.returns-clause-clocks
 returns-clause-clocks c = clock_of-all-kept
+
+pub returns-clause-keys : goal.returns-clause-keys
+returns-clause-keys c = key_text_of-all-kept

@@ -1,0 +1,12 @@
+//! Where the text of a key is looked up.
+
+use wsm_record::Schema;
+
+/// Where the text of a key is looked up, that no table of its source has a number for.
+#[derive(Clone, Copy)]
+pub(crate) enum Lookup<'a> {
+    /// Among the keys of a schema.
+    In(&'a Schema),
+    /// Nowhere: it is kept, and the event has no key.
+    Later,
+}
