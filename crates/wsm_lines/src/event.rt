@@ -65,7 +65,7 @@ fn or_other(other: Option<u16>, found: Option<u16>) -> Option<u16>
 
 // The number of the key of this name.
 fn number_in(lookup: Lookup<'_>, text: &[u8]) -> Option<u32>
-    ensures { result ≡ position (bytes_eq text.now) (declared_by lookup).keys }
+    ensures { result ≡ position (bytes_eq text.now) (declared_by lookup.entry).keys }
 {
     match lookup {
         Lookup::In(schema) => schema.key_number(text),
@@ -75,12 +75,14 @@ fn number_in(lookup: Lookup<'_>, text: &[u8]) -> Option<u32>
 
 // The number of the key that a text names.
 fn key_number(names: &KeyNames, lookup: Lookup<'_>, text: &[u8]) -> Option<u32>
-    ensures { result ≡ key_number names.now (declared_by lookup) text.now }
+    ensures { result ≡ key_number names.now (declared_by lookup.entry) text.now }
 {
     match names {
         KeyNames::Same => number_in(lookup, text),
         KeyNames::Table(table, other) => or_other(*other, table.number_of(text)).map(u32::from),
-        KeyNames::Prefixes(prefixes, other) => or_other(*other, prefixes.number_of(text)).map(u32::from),
+        KeyNames::Prefixes(prefixes, other) => or_other(*other, prefixes.number_of(text)).map(
+            u32::from,
+        ),
     }
 }
 
@@ -91,8 +93,8 @@ fn read_key(
     taken: &Taken<'_>,
     kept: &mut ShortText,
 ) -> Result<Option<u32>, LineFault>
-    ensures number { result ≡ key_of key.now (declared_by lookup) (taken_seen taken.now) }
-    ensures kept { lookup ≡ Lookup.Later → OnOk result (key_at key.now (taken_seen taken.now) ≡ Ok kept.new) }
+    ensures number { result ≡ key_of key.now (declared_by lookup.entry) (taken_seen taken.now) }
+    ensures kept { lookup.entry ≡ Lookup.Later → OnOk result (key_at key.now (taken_seen taken.now) ≡ Ok kept.new) }
 {
     let text = match text_of(
         LineFault::NoKey,
@@ -267,9 +269,9 @@ pub(crate) fn read_record(
     event: &mut Event,
     kept: &mut ShortText,
 ) -> Result<(), LineRefusal>
-    ensures event { OnOk result (record_in source.now (declared_by lookup) (taken_seen taken.now) ≡ Ok (event_of event.new)) }
-    ensures key { lookup ≡ Lookup.Later → OnOk result (key_at source.now.key (taken_seen taken.now) ≡ Ok kept.new) }
-    ensures fault { IfErr result (λ r. IfFault r (λ f. record_in source.now (declared_by lookup) (taken_seen taken.now) ≡ Err f)) }
+    ensures event { OnOk result (record_in source.now (declared_by lookup.entry) (taken_seen taken.now) ≡ Ok (event_of event.new)) }
+    ensures key { lookup.entry ≡ Lookup.Later → OnOk result (key_at source.now.key (taken_seen taken.now) ≡ Ok kept.new) }
+    ensures fault { IfErr result (λ r. IfFault r (λ f. record_in source.now (declared_by lookup.entry) (taken_seen taken.now) ≡ Err f)) }
 {
     let key = read_key(&source.key, lookup, taken, kept)?;
     let time = time_at(&source.time, taken)?;

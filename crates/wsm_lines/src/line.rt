@@ -37,11 +37,11 @@ fn read_json(
     reading: &mut Reading,
 ) -> Result<(), LineRefusal>
     requires { PassesSource filter.now.buckets source.now }
-    ensures event { OnOk result (HoldsEvent source.now (declared_by lookup) (on_ok (text_in first source.now.longest line.now) taken_json) reading.new) }
+    ensures event { OnOk result (HoldsEvent source.now (declared_by lookup.entry) (on_ok (text_in first source.now.longest line.now) taken_json) reading.new) }
     ensures identifier { OnOk result (HoldsIdentifier source.now (on_ok (text_in first source.now.longest line.now) taken_json) reading.new) }
-    ensures key { lookup ≡ Lookup.Later → OnOk result (HoldsKey source.now (on_ok (text_in first source.now.longest line.now) taken_json) reading.new) }
+    ensures key { lookup.entry ≡ Lookup.Later → OnOk result (HoldsKey source.now (on_ok (text_in first source.now.longest line.now) taken_json) reading.new) }
     ensures clock { OnOk result (HoldsClock source.now (on_ok (text_in first source.now.longest line.now) taken_json) reading.new) }
-    ensures fault { IfErr result (λ r. IfFault r (TellsFault source.now (declared_by lookup) (on_ok (text_in first source.now.longest line.now) taken_json))) }
+    ensures fault { IfErr result (λ r. IfFault r (TellsFault source.now (declared_by lookup.entry) (on_ok (text_in first source.now.longest line.now) taken_json))) }
 {
     let text = text_in(first, source.longest, line)?;
     match sift(alloc, filter, text, scratch) {
@@ -60,11 +60,11 @@ fn read_access(
     line: &[u8],
     reading: &mut Reading,
 ) -> Result<(), LineRefusal>
-    ensures event { OnOk result (HoldsEvent source.now (declared_by lookup) (on_ok (text_in first source.now.longest line.now) taken_access) reading.new) }
+    ensures event { OnOk result (HoldsEvent source.now (declared_by lookup.entry) (on_ok (text_in first source.now.longest line.now) taken_access) reading.new) }
     ensures identifier { OnOk result (HoldsIdentifier source.now (on_ok (text_in first source.now.longest line.now) taken_access) reading.new) }
-    ensures key { lookup ≡ Lookup.Later → OnOk result (HoldsKey source.now (on_ok (text_in first source.now.longest line.now) taken_access) reading.new) }
+    ensures key { lookup.entry ≡ Lookup.Later → OnOk result (HoldsKey source.now (on_ok (text_in first source.now.longest line.now) taken_access) reading.new) }
     ensures clock { OnOk result (HoldsClock source.now (on_ok (text_in first source.now.longest line.now) taken_access) reading.new) }
-    ensures fault { IfErr result (λ r. IfFault r (TellsFault source.now (declared_by lookup) (on_ok (text_in first source.now.longest line.now) taken_access))) }
+    ensures fault { IfErr result (λ r. IfFault r (TellsFault source.now (declared_by lookup.entry) (on_ok (text_in first source.now.longest line.now) taken_access))) }
 {
     let text = text_in(first, source.longest, line)?;
     match access_of(text.as_bytes()) {
@@ -85,11 +85,11 @@ pub(crate) fn read_line(
     reading: &mut Reading,
 ) -> Result<(), LineRefusal>
     requires { PassesSource filter.now.buckets source.now }
-    ensures event { OnOk result (HoldsEvent source.now (declared_by lookup) (taken_under source.now (heading_seen heading.old) line.now) reading.new) }
+    ensures event { OnOk result (HoldsEvent source.now (declared_by lookup.entry) (taken_under source.now (heading_seen heading.old) line.now) reading.new) }
     ensures identifier { OnOk result (HoldsIdentifier source.now (taken_under source.now (heading_seen heading.old) line.now) reading.new) }
-    ensures key { lookup ≡ Lookup.Later → OnOk result (HoldsKey source.now (taken_under source.now (heading_seen heading.old) line.now) reading.new) }
+    ensures key { lookup.entry ≡ Lookup.Later → OnOk result (HoldsKey source.now (taken_under source.now (heading_seen heading.old) line.now) reading.new) }
     ensures clock { OnOk result (HoldsClock source.now (taken_under source.now (heading_seen heading.old) line.now) reading.new) }
-    ensures fault { IfErr result (λ r. IfFault r (TellsFault source.now (declared_by lookup) (taken_under source.now (heading_seen heading.old) line.now))) }
+    ensures fault { IfErr result (λ r. IfFault r (TellsFault source.now (declared_by lookup.entry) (taken_under source.now (heading_seen heading.old) line.now))) }
     ensures heading { result ≢ Err LineRefusal.Memory →
         heading_seen heading.new ≡ headed_in source.now.format source.now.longest (heading_seen heading.old) line.now }
 {

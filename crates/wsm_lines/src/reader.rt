@@ -101,14 +101,14 @@ impl LineReader {
     #[inline(always)]
     fn read_by(&mut self, lookup: Lookup<'_>, line: &[u8]) -> Result<(), LineRefusal>
         ensures event { (s : Source) (before : List (List ℕ)) → Follows s before self.old →
-            OnOk result (said_of s (declared_by lookup) before line.now ≡ Ok (event_read self.new)) }
-        ensures key { lookup ≡ Lookup.Later → (s : Source) (before : List (List ℕ)) → Follows s before self.old →
+            OnOk result (said_of s (declared_by lookup.entry) before line.now ≡ Ok (event_read self.new)) }
+        ensures key { lookup.entry ≡ Lookup.Later → (s : Source) (before : List (List ℕ)) → Follows s before self.old →
             OnOk result (key_text_of s before line.now ≡ Some (key_read self.new)) }
         ensures identifier { (s : Source) (before : List (List ℕ)) → Follows s before self.old →
             OnOk result (identifier_of s before line.now ≡ identifier_read self.new) }
         ensures clock { (s : Source) (before : List (List ℕ)) → Follows s before self.old → OnOk result (clock_of s before line.now ≡ clock_read self.new) }
         ensures fault { (s : Source) (before : List (List ℕ)) → Follows s before self.old →
-            IfErr result (λ r. IfFault r (λ f. said_of s (declared_by lookup) before line.now ≡ Err f)) }
+            IfErr result (λ r. IfFault r (λ f. said_of s (declared_by lookup.entry) before line.now ≡ Err f)) }
         ensures follows { (s : Source) (before : List (List ℕ)) → Follows s before self.old → (result ≢ Err LineRefusal.Memory) →
             Follows s (line.now ∷ before) self.new }
     {

@@ -41,11 +41,11 @@ pub(crate) fn read_taken(
     taken: &Taken<'_>,
     reading: &mut Reading,
 ) -> Result<(), LineRefusal>
-    ensures event { OnOk result (event_in source.now (declared_by lookup) (taken_seen taken.now) ≡ Ok (event_of reading.new.event)) }
+    ensures event { OnOk result (event_in source.now (declared_by lookup.entry) (taken_seen taken.now) ≡ Ok (event_of reading.new.event)) }
     ensures identifier { OnOk result (identifier_at source.now.identifier (taken_seen taken.now) ≡ Ok (identifier_held reading.new.identifier)) }
-    ensures key { lookup ≡ Lookup.Later → OnOk result (key_at source.now.key (taken_seen taken.now) ≡ Ok reading.new.key) }
+    ensures key { lookup.entry ≡ Lookup.Later → OnOk result (key_at source.now.key (taken_seen taken.now) ≡ Ok reading.new.key) }
     ensures clock { OnOk result (clock_at source.now.clock (taken_seen taken.now) ≡ identifier_held reading.new.clock) }
-    ensures fault { IfErr result (λ r. IfFault r (λ f. event_in source.now (declared_by lookup) (taken_seen taken.now) ≡ Err f)) }
+    ensures fault { IfErr result (λ r. IfFault r (λ f. event_in source.now (declared_by lookup.entry) (taken_seen taken.now) ≡ Err f)) }
 {
     read_record(
         alloc,

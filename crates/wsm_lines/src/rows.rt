@@ -31,14 +31,14 @@ fn read_row(
     room: &mut Room,
     reading: &mut Reading,
 ) -> Result<(), LineRefusal>
-    ensures event { OnOk result (HoldsEvent source.now (declared_by lookup)
+    ensures event { OnOk result (HoldsEvent source.now (declared_by lookup.entry)
         (taken_row header.now.columns.items header.now.count (cells_of separator text.now)) reading.new) }
     ensures identifier { OnOk result
         (HoldsIdentifier source.now (taken_row header.now.columns.items header.now.count (cells_of separator text.now)) reading.new) }
-    ensures key { lookup ≡ Lookup.Later → OnOk result (HoldsKey source.now (taken_row header.now.columns.items header.now.count (cells_of separator text.now)) reading.new) }
+    ensures key { lookup.entry ≡ Lookup.Later → OnOk result (HoldsKey source.now (taken_row header.now.columns.items header.now.count (cells_of separator text.now)) reading.new) }
     ensures clock { OnOk result (HoldsClock source.now (taken_row header.now.columns.items header.now.count (cells_of separator text.now)) reading.new) }
     ensures fault { IfErr result (λ r. IfFault r
-        (TellsFault source.now (declared_by lookup) (taken_row header.now.columns.items header.now.count (cells_of separator text.now)))) }
+        (TellsFault source.now (declared_by lookup.entry) (taken_row header.now.columns.items header.now.count (cells_of separator text.now)))) }
 {
     if !find_cells(separator, text, &mut room.spans)? {
         return Err(LineRefusal::Fault(LineFault::NotCsv));
@@ -61,16 +61,16 @@ fn read_below(
     room: &mut Room,
     reading: &mut Reading,
 ) -> Result<(), LineRefusal>
-    ensures event { OnOk result (HoldsEvent source.now (declared_by lookup)
+    ensures event { OnOk result (HoldsEvent source.now (declared_by lookup.entry)
         (on_ok (text_in false source.now.longest line.now) (taken_below form.now (header_seen header.now))) reading.new) }
     ensures identifier { OnOk result
         (HoldsIdentifier source.now (on_ok (text_in false source.now.longest line.now) (taken_below form.now (header_seen header.now))) reading.new) }
-    ensures key { lookup ≡ Lookup.Later → OnOk result (HoldsKey source.now
+    ensures key { lookup.entry ≡ Lookup.Later → OnOk result (HoldsKey source.now
         (on_ok (text_in false source.now.longest line.now) (taken_below form.now (header_seen header.now))) reading.new) }
     ensures clock { OnOk result (HoldsClock source.now
         (on_ok (text_in false source.now.longest line.now) (taken_below form.now (header_seen header.now))) reading.new) }
     ensures fault { IfErr result (λ r. IfFault r
-        (TellsFault source.now (declared_by lookup) (on_ok (text_in false source.now.longest line.now) (taken_below form.now (header_seen header.now))))) }
+        (TellsFault source.now (declared_by lookup.entry) (on_ok (text_in false source.now.longest line.now) (taken_below form.now (header_seen header.now))))) }
 {
     let text = text_in(false, source.longest, line)?.as_bytes();
     if text == header.text.as_slice() {
@@ -99,17 +99,17 @@ pub(crate) fn read_csv(
     room: &mut Room,
     reading: &mut Reading,
 ) -> Result<(), LineRefusal>
-    ensures event { OnOk result (HoldsEvent source.now (declared_by lookup)
+    ensures event { OnOk result (HoldsEvent source.now (declared_by lookup.entry)
         (on_ok (text_in (is_unread (heading_seen heading.old)) source.now.longest line.now) (taken_below form.now (heading_seen heading.old))) reading.new) }
     ensures identifier { OnOk result
         (HoldsIdentifier source.now
         (on_ok (text_in (is_unread (heading_seen heading.old)) source.now.longest line.now) (taken_below form.now (heading_seen heading.old))) reading.new) }
-    ensures key { lookup ≡ Lookup.Later → OnOk result (HoldsKey source.now
+    ensures key { lookup.entry ≡ Lookup.Later → OnOk result (HoldsKey source.now
         (on_ok (text_in (is_unread (heading_seen heading.old)) source.now.longest line.now) (taken_below form.now (heading_seen heading.old))) reading.new) }
     ensures clock { OnOk result (HoldsClock source.now
         (on_ok (text_in (is_unread (heading_seen heading.old)) source.now.longest line.now) (taken_below form.now (heading_seen heading.old))) reading.new) }
     ensures fault { IfErr result (λ r. IfFault r
-        (TellsFault source.now (declared_by lookup)
+        (TellsFault source.now (declared_by lookup.entry)
         (on_ok (text_in (is_unread (heading_seen heading.old)) source.now.longest line.now) (taken_below form.now (heading_seen heading.old))))) }
     ensures heading { result ≢ Err LineRefusal.Memory → heading_seen heading.new ≡ headed form.now source.now.longest (heading_seen heading.old) line.now }
 {

@@ -52,16 +52,16 @@ pub(crate) fn read_tagged_row(
     room: &mut Room,
     reading: &mut Reading,
 ) -> Result<(), LineRefusal>
-    ensures event { OnOk result (HoldsEvent source.now (declared_by lookup)
+    ensures event { OnOk result (HoldsEvent source.now (declared_by lookup.entry)
         (on_ok (text_in first source.now.longest line.now) (taken_record (length source.now.fields))) reading.new) }
     ensures identifier { OnOk result
         (HoldsIdentifier source.now (on_ok (text_in first source.now.longest line.now) (taken_record (length source.now.fields))) reading.new) }
-    ensures key { lookup ≡ Lookup.Later → OnOk result (HoldsKey source.now
+    ensures key { lookup.entry ≡ Lookup.Later → OnOk result (HoldsKey source.now
         (on_ok (text_in first source.now.longest line.now) (taken_record (length source.now.fields))) reading.new) }
     ensures clock { OnOk result (HoldsClock source.now
         (on_ok (text_in first source.now.longest line.now) (taken_record (length source.now.fields))) reading.new) }
     ensures fault { IfErr result (λ r. IfFault r
-        (TellsFault source.now (declared_by lookup) (on_ok (text_in first source.now.longest line.now) (taken_record (length source.now.fields))))) }
+        (TellsFault source.now (declared_by lookup.entry) (on_ok (text_in first source.now.longest line.now) (taken_record (length source.now.fields))))) }
 {
     let text = text_in(first, source.longest, line)?.as_bytes();
     let fields = source.fields.items();

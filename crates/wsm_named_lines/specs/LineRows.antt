@@ -40,6 +40,6 @@ they_are_read : read_in_turn 3 source bare (codes "a" ∷ codes "b" ∷ []) some
 unfolding is_utf8 chars encode_utf8 json_on_literals wsm_values_on_literals
 they_are_read = refl
 
-the_names : names_after_lines 3 source bare (codes "a" ∷ codes "b" ∷ []) some_lines ≡ codes "a" ∷ codes "b" ∷ codes "x,y" ∷ []
+the_names : names_after_lines 3 source (codes "a" ∷ codes "b" ∷ []) some_lines ≡ codes "a" ∷ codes "b" ∷ codes "x,y" ∷ []
 unfolding is_utf8 chars encode_utf8 json_on_literals wsm_values_on_literals
 the_names = refl

@@ -4,7 +4,7 @@ use std::alloc::{AllocError, Global};
 use std::marker::Model;
 use wsm_key_names::KeyNames;
 use wsm_lines::{LineReader, LineRefusal, Source};
-use wsm_record::{Event, Schema};
+use wsm_record::Event;
 
 /// Reads lines as events with their identifiers and clocks, each in place of the last, by any number of names. An event
 /// that was read has its key by its number among all of them, and a key that has no name is none.
@@ -29,13 +29,15 @@ impl Model for NamedLines {
 }
 
 impl NamedLines {
-    ghost use Rattle.std.specs.Prelude.{◌≡◌, ◌≢◌, ◌∷◌, [], ℕ, List, true, IfErr, OnOk, Err, Ok, option_map};
+    ghost use Rattle.std.specs.Prelude.{◌≡◌, ◌≢◌, ◌∷◌, [], ℕ, List, true, IfErr, OnErr, OnOk, Err, Ok, bytes_eq, option_map, position};
     ghost use Rattle.wsm_record.specs.Event.{event_of};
+    ghost use Rattle.wsm_record.specs.Schema.{Declared};
+    ghost use Rattle.wsm_key_names.specs.Names.{learned};
     ghost use Rattle.wsm_key_names.specs.Reading.{by_names, is_named};
     ghost use Rattle.wsm_lines.specs.declared.source.Source.{Source as AnySource};
     ghost use Rattle.wsm_lines.specs.Fault.{IfFault};
-    ghost use Rattle.wsm_lines.specs.Key.{are_same};
-    ghost use Rattle.wsm_lines.specs.Reader.{Follows, clock_read, event_read, identifier_read};
+    ghost use Rattle.wsm_lines.specs.Key.{are_same, with_key};
+    ghost use Rattle.wsm_lines.specs.Reader.{Follows, clock_read, event_read, identifier_read, key_read};
     ghost use Rattle.wsm_lines.specs.Said.{clock_of, identifier_of, said_of};
     ghost use Rattle.wsm_named_lines.specs.Names.{names_after_line};
 
@@ -54,25 +56,25 @@ impl NamedLines {
         }
     }
 
-    /// Reads the event, the identifier and the clock of a line, which comes without its line feed. A line that is an
-    /// event teaches its name where this is a new one and may be learned; one that is none teaches none. After a refusal
-    /// any of them stand there.
+    /// Reads the event, the identifier and the clock of a line, which comes without its line feed. A line that says an
+    /// event teaches its name where this is a new one and may be learned; one that is no event teaches none. After a
+    /// refusal any of them stand there.
     ///
     /// # Errors
     ///
     /// The first fault, which no name has a part in. After want of memory the names are those that there were.
-    pub fn read(&mut self, schema: &Schema, line: &[u8]) -> Result<(), LineRefusal>
-        ensures event { (s : AnySource) (before : List (List ℕ)) → Follows s before self.old.reader →
-            OnOk result (said_of s (by_names self.new.names schema.now) before line.now ≡ Ok (event_read self.new.reader)) }
+    pub fn read(&mut self, line: &[u8]) -> Result<(), LineRefusal>
+        ensures event { (s : AnySource) (d : Declared) (before : List (List ℕ)) → Follows s before self.old.reader →
+            OnOk result (said_of s (by_names self.new.names d) before line.now ≡ Ok (event_read self.new.reader)) }
         ensures named { OnOk result (is_named self.new.names (event_read self.new.reader) ≡ true) }
         ensures identifier { (s : AnySource) (before : List (List ℕ)) → Follows s before self.old.reader →
             OnOk result (identifier_of s before line.now ≡ identifier_read self.new.reader) }
         ensures clock { (s : AnySource) (before : List (List ℕ)) → Follows s before self.old.reader →
             OnOk result (clock_of s before line.now ≡ clock_read self.new.reader) }
-        ensures fault { (s : AnySource) (before : List (List ℕ)) → Follows s before self.old.reader →
-            IfErr result (λ r. IfFault r (λ f. said_of s schema.now before line.now ≡ Err f)) }
+        ensures fault { (s : AnySource) (d : Declared) (before : List (List ℕ)) → Follows s before self.old.reader →
+            IfErr result (λ r. IfFault r (λ f. said_of s d before line.now ≡ Err f)) }
         ensures names { (s : AnySource) (before : List (List ℕ)) → Follows s before self.old.reader → result ≢ Err LineRefusal.Memory →
-            self.new.names ≡ names_after_line self.old.most s schema.now self.old.names before line.now }
+            self.new.names ≡ names_after_line self.old.most s self.old.names before line.now }
         ensures unchanged { result ≡ Err LineRefusal.Memory → self.new.names ≡ self.old.names }
         ensures follows { (s : AnySource) (before : List (List ℕ)) → Follows s before self.old.reader → result ≢ Err LineRefusal.Memory →
             Follows s (line.now ∷ before) self.new.reader }
@@ -80,9 +82,29 @@ impl NamedLines {
     {
         self.reader.read_unnamed(line)?;
         match self.names.number_of(self.reader.key()) {
-            Some(number) => self.reader.set_key(Some(number)),
-            None => self.learn()?,
+            Some(number) => {
+                self.reader.set_key(Some(number));
+                Ok(())
+            }
+            None => self.learn(),
         }
+    }
+
+    // Learns the text of the key of the event that was read last, where it may be, and numbers it.
+    #[cold]
+    #[inline(never)]
+    fn learn(&mut self) -> Result<(), LineRefusal>
+        ensures event { OnOk result (event_read self.new.reader ≡ with_key (position (bytes_eq (key_read self.old.reader)) self.new.names) (event_read self.old.reader)) }
+        ensures identifier { identifier_read self.new.reader ≡ identifier_read self.old.reader }
+        ensures clock { clock_read self.new.reader ≡ clock_read self.old.reader }
+        ensures follows { (s : AnySource) (before : List (List ℕ)) → Follows s before self.old.reader → Follows s before self.new.reader }
+        ensures names { OnOk result (self.new.names ≡ learned self.old.most self.old.names (key_read self.old.reader)) }
+        ensures memory { IfErr result (λ r. r ≡ LineRefusal.Memory) }
+        ensures unchanged { OnErr result (self.new.names ≡ self.old.names) }
+        ensures most { self.new.most ≡ self.old.most }
+    {
+        let number = self.names.number_or_next(self.reader.key(), self.most)?;
+        self.reader.set_key(number);
         Ok(())
     }
 
