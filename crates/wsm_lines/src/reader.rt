@@ -93,6 +93,7 @@ impl LineReader {
             IfErr result (λ r. IfFault r (λ f. said_of s no_names before line.now ≡ Err f)) }
         ensures follows { (s : Source) (before : List (List ℕ)) → Follows s before self.old → (result ≢ Err LineRefusal.Memory) →
             Follows s (line.now ∷ before) self.new }
+        ensures source { self.new.source ≡ self.old.source }
     {
         self.read_by(Lookup::Later, line)
     }
@@ -111,6 +112,7 @@ impl LineReader {
             IfErr result (λ r. IfFault r (λ f. said_of s (declared_by lookup.entry) before line.now ≡ Err f)) }
         ensures follows { (s : Source) (before : List (List ℕ)) → Follows s before self.old → (result ≢ Err LineRefusal.Memory) →
             Follows s (line.now ∷ before) self.new }
+        ensures source { self.new.source ≡ self.old.source }
     {
         read_line(
             self.alloc,
@@ -130,6 +132,7 @@ impl LineReader {
         ensures identifier { identifier_read self.new ≡ identifier_read self.old }
         ensures clock { clock_read self.new ≡ clock_read self.old }
         ensures follows { (s : Source) (before : List (List ℕ)) → Follows s before self.old → Follows s before self.new }
+        ensures source { self.new.source ≡ self.old.source }
     {
         if let Event::Record { key, .. } = &mut self.reading.event {
             *key = number;

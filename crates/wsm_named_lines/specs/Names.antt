@@ -1,5 +1,5 @@
 -- The names that lines of a log teach, and what lines say by names. Lines that came before have the newest first.
-use Rattle.std.specs.Prelude.{◌≡◌, ℕ, List, [], ◌∷◌, ◌++◌, Option, Result, is_ok, if◌then◌else◌}
+use Rattle.std.specs.Prelude.{◌≡◌, ℕ, List, [], ◌∷◌, ◌++◌, Result, is_ok, if◌then◌else◌}
 use Rattle.wsm_record.specs.Event.{Event}
 use Rattle.wsm_record.specs.Schema.{Declared}
 use Rattle.wsm_key_names.specs.Reading.{by_names, learned_of}

@@ -111,7 +111,7 @@ impl NamedLines {
     /// Reads the first line of a log whose names are known: for its heading alone, whatever it says, so it teaches no
     /// name. What a reader that goes on behind other lines begins with.
     pub fn read_first(&mut self, line: &[u8]) -> Result<(), AllocError>
-        ensures { (s : AnySource) → Follows s [] self.old.reader → OnOk result (Follows s (line.now ∷ []) self.new.reader) }
+        ensures follows { (s : AnySource) → Follows s [] self.old.reader → OnOk result (Follows s (line.now ∷ []) self.new.reader) }
         ensures names { self.new.names ≡ self.old.names }
         ensures most { self.new.most ≡ self.old.most }
     {

@@ -1,0 +1,2 @@
+pub mod ByNames
+pub mod Taught
