@@ -137,7 +137,11 @@ impl<'a> Sides<'a> {
         if !header.schema.fits(values) || pane.count >= header.clock.records {
             return true;
         }
-        let Some(cost) = self.answer_record(*key, values, pane) else {
+        // No engine has a key beyond these.
+        let Ok(key) = u16::try_from(*key) else {
+            return true;
+        };
+        let Some(cost) = self.answer_record(key, values, pane) else {
             return false;
         };
         reply.refusal.is_some() || cost.comes_to(header, pane.mark, *time, reply.record_steps)
