@@ -2,7 +2,7 @@
 //!
 //! [`command_of`] reads the words as `clap` means them, and answers the [`Job`] that they ask for, or
 //! why they ask for none: they are wrong or ask for help or the version, and `clap`'s error has the text
-//! to print, or memory ran out.
+//! to print, or memory ran out. [`number_of`] reads a word that is a number.
 //!
 //! ```rust
 //! use wsm_words::{Job, command_of};
@@ -19,6 +19,7 @@ pub use job::{
     Agreement, CompileJob, DealJob, ExplainJob, Job, KeepJob, LiveJob, MigrateJob, Named, RowsJob,
     RunJob, VerifyJob, WatermarksJob,
 };
+pub use numbers::number_of;
 pub use refusal::WordsRefusal;
 pub use words::command_of;
 
@@ -27,6 +28,7 @@ mod commands;
 mod entries;
 mod help;
 mod job;
+mod numbers;
 mod refusal;
 mod version;
 mod words;
