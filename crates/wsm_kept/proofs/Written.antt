@@ -99,50 +99,42 @@ module _ {R : Type 0} (remaining : R → Option (List ℕ)) (known : Option (Lis
   text_is = kept_text q sum is.old is.past
 
   -- all was written, and has left
-  pub is_written : (old mid last new : Option (List ℕ)) → Appends old mid cut.text.items → Follow known is.past mid last → Keeps last new → IsWritten known q sum old new
+  pub is_written : (old mid last new : Option (List ℕ)) → Appends old mid cut.text.items → Follow known is.past mid last → Keeps last new → IsWritten known q sum is.past is.old old new
   is_written old mid last new text more kept = record {
-    past = is.past;
     behind = more.behind;
     all = more.all;
-    before = is.old;
     head = is.head;
     text = Keeps-Appends old last new (text_is ++ rows_text more.behind)
         (Appends-join old mid last text_is (rows_text more.behind) (subst (Appends old mid) is.text text) more.text) kept;
   }
 
   -- the device failed as it had it leave
-  pub begun_whole : (old mid last new : Option (List ℕ)) → Appends old mid cut.text.items → Follow known is.past mid last → Keeps last new → IsBegun known q sum old new
+  pub begun_whole : (old mid last new : Option (List ℕ)) → Appends old mid cut.text.items → Follow known is.past mid last → Keeps last new → IsBegun known q sum is.past is.old old new
   begun_whole old mid last new text more kept =
-      let all : IsWritten known q sum old new = is_written old mid last new text more kept in
+      let all : IsWritten known q sum is.past is.old old new = is_written old mid last new text more kept in
       record {
-        past = all.past;
         behind = all.behind;
-        first = all_first known (all.past ++ all.behind) all.all;
-        before = all.before;
+        first = all_first known (is.past ++ all.behind) all.all;
         head = all.head;
-        part = TakesPart-all old new (kept_text q sum all.before all.past ++ rows_text all.behind) all.text;
+        part = TakesPart-all old new (text_is ++ rows_text all.behind) all.text;
       }
 
   -- it failed in what stands in the place of rows
-  pub begun_first : (old new : Option (List ℕ)) → TakesPart old new cut.text.items → IsBegun known q sum old new
+  pub begun_first : (old new : Option (List ℕ)) → TakesPart old new cut.text.items → IsBegun known q sum is.past is.old old new
   begun_first old new part =
       let (behind, first) = some_first remaining known is.past rows cut.at_end is.read in
       record {
-        past = is.past;
         behind = behind;
         first = first;
-        before = is.old;
         head = is.head;
         part = TakesPart-join old old new [] text_is (rows_text behind) (Appends-start old) (subst (TakesPart old new) is.text part);
       }
 
   -- in the rows behind them
-  pub begun_behind : (old mid new : Option (List ℕ)) → Appends old mid cut.text.items → FollowInPart known is.past mid new → IsBegun known q sum old new
+  pub begun_behind : (old mid new : Option (List ℕ)) → Appends old mid cut.text.items → FollowInPart known is.past mid new → IsBegun known q sum is.past is.old old new
   begun_behind old mid new text more = record {
-    past = is.past;
     behind = more.behind;
     first = more.first;
-    before = is.old;
     head = is.head;
     part = TakesPart-last old mid new text_is (rows_text more.behind) (subst (Appends old mid) is.text text) more.part;
   }

@@ -45,20 +45,16 @@ pub record FollowInPart (known : Option (List ℕ)) (past : List Cells) (old new
   pub first : AreFirst known (past ++ behind)
   pub part : TakesPart old new (rows_text behind)
 
--- all was read, and written as it stands behind some rows, in whose place the head and the rows that stay are written
-pub record IsWritten (known : Option (List ℕ)) (q : Query) (sum : ℕ) (old new : Option (List ℕ)) : Type 0 where
-  pub past : List Cells
+-- all was read, and written as it stands behind these rows, in whose place the head and the rows that stay are written
+pub record IsWritten (known : Option (List ℕ)) (q : Query) (sum : ℕ) (past : List Cells) (before : Head) (old new : Option (List ℕ)) : Type 0 where
   pub behind : List Cells
   pub all : AreAll known (past ++ behind)
-  pub before : Head
   pub head : BeginWith past before
   pub text : Appends old new (kept_text q sum before past ++ rows_text behind)
 
 -- a beginning of that was written, for the first rows
-pub record IsBegun (known : Option (List ℕ)) (q : Query) (sum : ℕ) (old new : Option (List ℕ)) : Type 0 where
-  pub past : List Cells
+pub record IsBegun (known : Option (List ℕ)) (q : Query) (sum : ℕ) (past : List Cells) (before : Head) (old new : Option (List ℕ)) : Type 0 where
   pub behind : List Cells
   pub first : AreFirst known (past ++ behind)
-  pub before : Head
   pub head : BeginWith past before
   pub part : TakesPart old new (kept_text q sum before past ++ rows_text behind)

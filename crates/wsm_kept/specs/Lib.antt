@@ -8,3 +8,4 @@ pub mod Stay
 pub mod Own
 pub mod Pass
 pub mod Unseen
+pub mod Over

@@ -30,10 +30,10 @@ pub fn write_cut<R: Read + Drop, D: Device>(
     out: &mut D,
 ) -> Result<(), KeepEnd>
     requires { D.has_failed out.old ≡ false }
-    ensures written { (known : Option (List ℕ)) (q : Query) (sum : ℕ) → IsCut R.remaining known q sum rows.old cut.now →
-        OnOk result (IsWritten known q sum (D.taken out.old) (D.taken out.new)) }
-    ensures begun { (known : Option (List ℕ)) (q : Query) (sum : ℕ) → IsCut R.remaining known q sum rows.old cut.now →
-        OnErr result (IsBegun known q sum (D.taken out.old) (D.taken out.new)) }
+    ensures written { (known : Option (List ℕ)) (q : Query) (sum : ℕ) (is : IsCut R.remaining known q sum rows.old cut.now) →
+        OnOk result (IsWritten known q sum is.past is.old (D.taken out.old) (D.taken out.new)) }
+    ensures begun { (known : Option (List ℕ)) (q : Query) (sum : ℕ) (is : IsCut R.remaining known q sum rows.old cut.now) →
+        OnErr result (IsBegun known q sum is.past is.old (D.taken out.old) (D.taken out.new)) }
     ensures flushed { OnOk result (D.is_flushed out.new ≡ true) }
 {
     write_out(out, &cut.text)?;
