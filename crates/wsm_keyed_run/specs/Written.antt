@@ -46,6 +46,10 @@ EndsEarly known k cells old new ends.WriteFailed = BreaksWithin known k cells ol
 abbrev pub KeyedWritten : Option (List ℕ) → Option (List ℕ) → Option (List ℕ) → Keyed → Totals → Type 0
 KeyedWritten known old new k totals = (cells : List Cells) × Completes known k cells old new totals
 
+-- the same of a text's program over places, by these names, of which there may be so many
+abbrev pub KeyedOver : List ℕ → List (List ℕ) → ℕ → Option (List ℕ) → Option (List ℕ) → Option (List ℕ) → Totals → Type 0
+KeyedOver text names most known old new totals = (p : Program) × IsByPlaces text p × KeyedWritten known old new (record { program = p; names = names; most = most }) totals
+
 -- a beginning of that was written
 abbrev pub KeyedBroken : Option (List ℕ) → Option (List ℕ) → Option (List ℕ) → Keyed → Ending → Type 0
 KeyedBroken known old new k end = (cells : List Cells) × EndsEarly known k cells old new end

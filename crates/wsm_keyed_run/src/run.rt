@@ -2,7 +2,6 @@
 
 ghost use Rattle.std.specs.Prelude.{◌≡◌, ◌≢◌, ◌⊎◌, ℕ, List, [], Option, Err, true, false, IfErr, IfOk, OnOk};
 ghost use Rattle.std.specs.Io.KnownBytes.{Keeps};
-ghost use Rattle.wsm_program.specs.Program.{Program as AnyProgram};
 ghost use Rattle.wsm_csv.specs.Records.{AreAll};
 ghost use Rattle.wsm_csv.specs.Rows.{Follows, error_of, read_end};
 ghost use Rattle.wsm_inputs.specs.Ends.{hides_memory};
@@ -10,7 +9,7 @@ ghost use Rattle.wsm.specs.Written.{Cells};
 ghost use Rattle.wsm_keyed_run.specs.Keyed.{Keyed};
 ghost use Rattle.wsm_keyed_run.specs.Places.{IsByPlaces, IsOpened, IsUnrun};
 ghost use Rattle.wsm_keyed_run.specs.Turns.{Fits, HasBlocks, Stands};
-ghost use Rattle.wsm_keyed_run.specs.Written.{Completes, EndsEarly, KeyedBroken, KeyedWritten, Stops};
+ghost use Rattle.wsm_keyed_run.specs.Written.{Completes, EndsEarly, KeyedBroken, KeyedOver, KeyedWritten, Stops};
 
 use crate::places::{accepted_by_places, begins_with_keys, says_key};
 use crate::stop::KeyedStop;
@@ -53,8 +52,7 @@ pub fn run_keyed<R: Read + Drop, D: Device>(
 ) -> Result<KeyedTotals, KeyedStop>
     requires works { D.has_failed out.old ≡ false }
     ensures completes { (known : Option (List ℕ)) → Follows R.remaining known [] rows.old →
-        IfOk result (λ run. (p : AnyProgram) × IsByPlaces text.now p ×
-        KeyedWritten known (D.taken out.old) (D.taken out.new) (record { program = p; names = names; most = most }) run.totals) }
+        IfOk result (λ run. KeyedOver text.now names most known (D.taken out.old) (D.taken out.new) run.totals) }
     ensures ends_early { (known : Option (List ℕ)) → Follows R.remaining known [] rows.old →
         IfErr result (Stops text.now known names most (D.taken out.old) (D.taken out.new)) }
     ensures flushed { OnOk result (D.is_flushed out.new ≡ true) }
@@ -68,6 +66,29 @@ pub fn run_keyed<R: Read + Drop, D: Device>(
         names: turns.name_count(),
         parts: turns.part_count(),
     })
+}
+
+/// Runs the query of a text without a KEYS clause over the rows of a reader's bytes, as [`run_keyed`] does, and makes the rows itself.
+///
+/// # Errors
+///
+/// As [`run_keyed`].
+pub fn run_keyed_over<R: Read + Drop, D: Device>(
+    alloc: Global,
+    text: &[u8],
+    names: KeyNames,
+    most: u32,
+    reader: R,
+    out: &mut D,
+) -> Result<KeyedTotals, KeyedStop>
+    requires works { D.has_failed out.old ≡ false }
+    ensures completes { IfOk result (λ run. KeyedOver text.now names most (R.remaining reader) (D.taken out.old) (D.taken out.new) run.totals) }
+    ensures ends_early { IfErr result (Stops text.now (R.remaining reader) names most (D.taken out.old) (D.taken out.new)) }
+    ensures flushed { OnOk result (D.is_flushed out.new ≡ true) }
+    ensures write_failed { result ≡ Err (KeyedStop.End End.WriteFailed) → D.has_failed out.new ≡ true }
+{
+    let mut rows = Rows::new(alloc, reader);
+    run_keyed(alloc, text, names, most, &mut rows, out)
 }
 
 /// The accepted program of a text that says no KEY and has no KEYS clause, over as many places as a part may have.
