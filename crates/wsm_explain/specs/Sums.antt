@@ -1,5 +1,10 @@
--- The sum by which rows and tables know the text of a query. This project's own rule.
-use Rattle.std.specs.Prelude.{ℕ, Bool, true, false, List, [], ◌++◌, cond, codes}
+-- The sums by which rows, tables and the folder of a live run know a query. This project's own rule.
+use Rattle.std.specs.Prelude.{◌≡◌, ℕ, Bool, true, false, List, [], ◌++◌, cond, codes, Ok}
+use Rattle.wsm_program.specs.Program.{Program}
+use Rattle.wsm_bytecode.specs.Spelling.{spelling}
+use Rattle.wsm_inputs.specs.declared.input.Input.{Input}
+use Rattle.wsm_inputs.specs.declared.input.Input.TheVariants as input
+use Rattle.wsm_inputs.specs.Inputs.{judged}
 use Rattle.wsm_tokens.specs.Tokens.{Token, Tokens, Then, End, Bad, tokens}
 use Rattle.wsm_tokens.specs.Read.{begins}
 use Rattle.wsm_tokens.specs.Written.{token_text}
@@ -24,3 +29,20 @@ told text = told_from true false (tokens text)
 
 abbrev pub text_sum : List ℕ → ℕ
 text_sum text = sum_of (told text)
+
+-- the bytes of an input's program, in the version that is written
+abbrev pub IsSpelt : Input → List ℕ → Type 0
+IsSpelt i bytes = (p : Program) × (judged i ≡ Ok p) × (bytes ≡ spelling p)
+
+-- that of an input: of a program's bytes in the version that is written
+abbrev pub IsInputSum : Input → ℕ → Type 0
+IsInputSum (input.Text text) sum = sum ≡ text_sum text.now
+IsInputSum (input.Program bytes) sum = (newest : List ℕ) × IsSpelt (input.Program bytes) newest × (sum ≡ sum_of newest)
+
+-- a hyphen stands behind the source where lines come on standard input
+abbrev pub fed_mark : Bool → List ℕ
+fed_mark is_fed = cond is_fed (codes "-") []
+
+-- that of a live run: of the program and its source, and the mark of its lines
+abbrev pub IsLiveSum : Input → List ℕ → Bool → ℕ → Type 0
+IsLiveSum i source is_fed sum = (newest : List ℕ) × IsSpelt i newest × (sum ≡ sum_of (newest ++ (source ++ fed_mark is_fed)))

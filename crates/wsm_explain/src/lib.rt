@@ -25,11 +25,12 @@
 //! - `standing`: what may stand at the place of a fault
 //! - `limits`: how much a query may have
 //! - `ways`: how columns of panes add up
-//! - `sums`: the sum by which rows and tables know a query's text
+//! - `sums`: the sums by which rows, tables and the folder of a live run know a query
 //! - `texts`, `tokens`: names as texts, and walks through tokens
 #![tactic(auto)]
 
 pub use explaining::{Judgement, explain, explained_text};
+pub use sums::{input_sum, live_sum, text_sum};
 pub use ways::Way;
 
 mod declared;

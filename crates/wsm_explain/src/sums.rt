@@ -1,12 +1,13 @@
-//! The sum by which rows and tables know the text of a query.
+//! The sums by which rows, tables and the folder of a live run know a query.
 
 ghost use Rattle.std.specs.Prelude.{◌≡◌, ◌++◌, IfOk, OnOk};
 ghost use Rattle.wsm_tokens.specs.Tokens.{token_of};
 ghost use Rattle.wsm_tokens.specs.Written.{token_text};
-ghost use Rattle.wsm_explain.specs.Sums.{gap, text_sum, told, told_token};
+ghost use Rattle.wsm_explain.specs.Sums.{IsInputSum, IsLiveSum, IsSpelt, fed_mark, gap, text_sum, told, told_token};
 
 use itoa::Buffer;
 use std::alloc::{AllocError, Global};
+use wsm_inputs::{End, Input, compile_text, migrate};
 use wsm_sums::Crc32;
 use wsm_tokens::{Reader, Token};
 
@@ -18,6 +19,60 @@ pub fn text_sum(alloc: Global, text: &[u8]) -> Result<u32, AllocError>
     let mut sum = Crc32::new();
     sum.add(&told);
     Ok(sum.sum())
+}
+
+/// The sum by which rows know what they were cut for: of a query's text that of [`text_sum`], of a program's bytes that of these in
+/// the version that is written.
+///
+/// # Errors
+///
+/// Bytes that spell no program are refused; else memory was.
+pub fn input_sum(alloc: Global, input: Input<'_>) -> Result<u32, End>
+    ensures { IfOk result (IsInputSum input.entry) }
+{
+    match input {
+        Input::Text(text) => Ok(text_sum(alloc, text)?),
+        Input::Program(bytes) => {
+            let newest = migrate(alloc, bytes)?;
+            let mut sum = Crc32::new();
+            sum.add(&newest);
+            Ok(sum.sum())
+        }
+    }
+}
+
+/// The sum of all that says what is written for the lines of a log: the bytes of the program, in the version that is written, and
+/// those of its source behind them. It is another one where the lines come on standard input, so no folder takes them of both.
+///
+/// # Errors
+///
+/// A text or bytes that are no program are refused; else memory was.
+pub fn live_sum(alloc: Global, input: Input<'_>, source: &[u8], is_fed: bool) -> Result<u32, End>
+    ensures { IfOk result (IsLiveSum input.entry source.now is_fed) }
+{
+    let newest = spelt(alloc, input)?;
+    let mut sum = Crc32::new();
+    sum.add(&newest);
+    sum.add(source);
+    sum.add(mark_of(is_fed));
+    Ok(sum.sum())
+}
+
+// What stands behind the source where the lines come on standard input.
+fn mark_of(is_fed: bool) -> &'static [u8]
+    ensures { result.now ≡ fed_mark is_fed }
+{
+    if is_fed { b"-" } else { b"" }
+}
+
+// The bytes of an input's program, in the version that is written.
+fn spelt(alloc: Global, input: Input<'_>) -> Result<Vec<u8>, End>
+    ensures { IfOk result (λ bytes. IsSpelt input.entry bytes.items) }
+{
+    match input {
+        Input::Text(text) => compile_text(alloc, text),
+        Input::Program(bytes) => migrate(alloc, bytes),
+    }
 }
 
 // The text of which the sum is.
