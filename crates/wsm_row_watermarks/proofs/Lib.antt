@@ -5,3 +5,4 @@ pub mod Counting
 pub mod Turning
 pub mod LinesTaken
 pub mod HeaderTimes
+pub mod SpeltNames

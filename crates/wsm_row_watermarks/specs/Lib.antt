@@ -6,3 +6,4 @@ pub mod TurnRows
 pub mod Handed
 pub mod Fits
 pub mod Run
+pub mod Sources

@@ -7,6 +7,7 @@
 
 pub use counts::{Counts, Totals};
 pub use row::FIRST_PLACE;
+pub use sources::schema_by_source;
 pub use times::Times;
 pub use write::{Rules, write_watermarks};
 
@@ -14,6 +15,7 @@ mod counts;
 mod handed;
 mod pieces;
 mod row;
+mod sources;
 mod text;
 mod times;
 mod turns;
