@@ -19,7 +19,7 @@ identifier_read r = identifier_held r.reading.identifier
 abbrev pub clock_read : LineReader → Option (List ℕ)
 clock_read r = identifier_held r.reading.clock
 
--- the text of the key that was looked up later last
+-- the text of the key of the last line whose key was to be looked up later
 abbrev pub key_read : LineReader → List ℕ
 key_read r = r.reading.key
 

@@ -2,7 +2,7 @@
 
 use wsm_record::Schema;
 
-/// Where the text of a key is looked up, that no table of its source has a number for.
+/// Where the text of a key is looked up that its source itself has no number for.
 #[derive(Clone, Copy)]
 pub(crate) enum Lookup<'a> {
     /// Among the keys of a schema.

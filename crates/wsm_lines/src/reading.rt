@@ -28,7 +28,7 @@ pub struct Reading {
     pub identifier: ShortText,
     /// The bytes of the clock's name: none where the line names no clock.
     pub clock: ShortText,
-    /// The bytes of the text of the key that was looked up later last.
+    /// The text of the key of the last line whose key was to be looked up later.
     pub key: ShortText,
 }
 
