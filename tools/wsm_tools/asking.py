@@ -141,11 +141,11 @@ class Answer:
 class Query:
     """A query that the program takes, or at least reads and compiles."""
 
-    def __init__(self, answer: Answer, keys: Optional[Sequence[str]] = None) -> None:
+    def __init__(self, answer: Answer, keys: Optional[Sequence[str]] = None, takes_new: bool = False) -> None:
         said = answer.said["program"]
         declares, output, clock = said["declares"], said["output"], said["clock"]
         window, firing = output["window"], output["firing"]
-        self.answer = answer
+        self.answer, self.is_named, self.takes_new = answer, keys is not None, takes_new  # whether it has keys of a file, and others that come
         self.keys: Sequence[str] = declares["keys"] if keys is None else keys
         self.key_set: FrozenSet[str] = frozenset(self.keys)
         self.fields = [field_of(field) for field in declares["fields"]]
@@ -210,13 +210,14 @@ def words_of(text: str) -> List[str]:
 
 def is_counted(query: Query) -> bool:
     """Whether the records that WHERE selects can be counted: lateness from the end of a window hangs on the window, and
-    then a record must stand in one alone."""
-    return query.shape == "FIXED" or not query.from_window
+    then a record must stand in one alone. A run by the names of a file reads no KEY."""
+    reads_key = query.is_named and query.where is not None and re.search(r"\bKEY\b", query.where.text)
+    return not reads_key and (query.shape == "FIXED" or not query.from_window)
 
 
 def selecting(query: Query, window: str, having: str) -> str:
     """A query with the same clock and the same WHERE, which fires with each record that it selects."""
-    parts = [part.text for part in query.answer.those("keys", "field", "sources", "clock")]
+    parts = [part.text for part in query.answer.those(*["keys"] * (not query.is_named), "field", "sources", "clock")]
     where = [f"WHERE {query.where.text}"] if query.where else []
     rest = f"WINDOW {window} DISCARDING EARLY EVERY 1 LATE EVERY 1 EMIT PANES;"
     return "\n".join([*parts, "SELECT COUNT(*)", *where, *([having] if having else []), rest])

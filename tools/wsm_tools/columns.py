@@ -2,15 +2,16 @@
 from __future__ import annotations
 
 import re
-from itertools import groupby
+from itertools import groupby, takewhile
 from operator import itemgetter
-from typing import Any, Callable, Dict, List, Optional, Sequence, Tuple, Type, Union
+from typing import Any, Callable, Dict, List, Optional, Sequence, Set, Tuple, Type, Union
 
 from .asking import Column, Query
-from .tables import File, Server, Work
+from .tables import File, Rows, Server, Work
 from .telling import BAD_QUERY, BAD_WORDS, Ended
 
 NAME = "[A-Za-z_][A-Za-z0-9_]{0,62}"
+KEY = '[^",\r]{1,255}|"(?:[^"]|""){1,255}"'     # of a file, or one that came: any bytes, as a cell of CSV
 WINDOW = ("key", "begins", "ends")
 WHOLE = "-?[0-9]{1,20}"
 EVERY = slice(None)
@@ -37,21 +38,44 @@ def names_of(query: Query) -> List[str]:
 Check = Tuple[Callable[[Sequence[str]], Any], Callable[[Any], bool]]  # what is seen of a line's cells, and whether that may be
 
 
-def tag_of(line: str) -> str:
-    return line.partition(",")[0]
+class Keys:
+    """The keys of lines: each by its cell, which the table mostly has as it is."""
+
+    def __init__(self, query: Query) -> None:
+        self.pattern = KEY if query.is_named else NAME
+        self.names = None if query.takes_new else query.key_set
+        self.plain: Set[str] = set()
+
+    def text_of(self, cell: str) -> Optional[str]:
+        """What the table has for a cell, or None where that is no key: its bytes as UTF-8; those that are none, and NUL, as
+        \\xHH, and a backslash in front of such a text as \\x5c, so that no two keys have one text."""
+        name = cell[1:-1].replace('""', '"') if cell.startswith('"') else cell
+        if self.names is not None and name not in self.names:
+            return None
+        escaped = re.sub(rb"\\(?=x[0-9a-f]{2})", rb"\\x5c", name.encode("latin-1"))
+        return escaped.decode("utf-8", "backslashreplace").replace("\0", "\\x00")
+
+    def known(self, rows: Rows, at: int) -> Rows:
+        """Rows up to the first whose cell at this place is no key, with the text of each."""
+        texts = {cell: self.text_of(cell) for cell in set(map(itemgetter(at), rows)) - self.plain}
+        self.plain.update(cell for cell, text in texts.items() if cell == text)
+        if texts.keys() <= self.plain:
+            return rows
+        known = takewhile(lambda row: row[at] in self.plain or texts[row[at]] is not None, rows)
+        return [(*row[:at], texts.get(row[at]) or row[at], *row[at + 1:]) for row in known]
 
 
 class Kind:
     """The lines of a tag: a pattern with a group for each cell that is used, what else is asked of these, and the
-    statements of a line, each with the cells that it takes."""
+    statements of a line, each with the cells that it takes. Of panes the place of the key among the cells, and the keys."""
 
-    def __init__(self, pattern: str, checks: Sequence[Check], statements: Sequence[Tuple[str, slice]]) -> None:
+    def __init__(self, pattern: str, checks: Sequence[Check], statements: Sequence[Tuple[str, slice]], key: int, keys: Keys) -> None:
         self.match = re.compile(pattern).fullmatch
-        self.checks, self.statements = checks, statements
+        self.checks, self.statements, self.key, self.keys = checks, statements, key, keys
 
-    def rows(self, lines: Sequence[str]) -> List[Tuple[str, ...]]:
+    def rows(self, lines: Sequence[str]) -> Rows:
         """The cells of lines, up to the first that isn't one of these."""
-        rows: List[Tuple[str, ...]] = []
+        rows: Rows = []
         for found in map(self.match, lines):
             if found is None:
                 break
@@ -59,9 +83,9 @@ class Kind:
         for seen, may_be in self.checks:
             if strange := {one for one in set(map(seen, rows)) if not may_be(one)}:
                 rows = rows[: next(number for number, row in enumerate(rows) if seen(row) in strange)]
-        return rows
+        return self.keys.known(rows, self.key) if self.key >= 0 else rows
 
-    def works(self, rows: Sequence[Tuple[str, ...]]) -> List[Work]:
+    def works(self, rows: Rows) -> List[Work]:
         """What lines of such cells do, in their order."""
         if len(self.statements) == 1:
             statement, cells = self.statements[0]
@@ -129,27 +153,26 @@ class Form:
             for at, column in enumerate(self.query.columns, front) if column.kind == "ENUM"
         ]
         if not self.is_stream:
-            checks.append((itemgetter(front - 3), self.query.key_set.__contains__))
             checks.append((itemgetter(front - 2, front - 1), self.query.has_window))
         return checks
 
     def kinds_of_lines(self) -> Dict[str, Kind]:
         """What the lines of each tag are and do."""
-        put = (self.insertion, EVERY)
+        put, keys = (self.insertion, EVERY), Keys(self.query)
         if self.is_stream:
-            return {self.table: Kind(f"{self.table},({WHOLE}){self.cells()}", self.checks(1), [put])}
-        window = f"({NAME}),({WHOLE}),({WHOLE})"
+            return {self.table: Kind(f"{self.table},({WHOLE}){self.cells()}", self.checks(1), [put], -1, keys)}
+        window = f"({keys.pattern}),({WHOLE}),({WHOLE})"
         puts = [(GROWN_OUT_OF, slice(1, 4)), put] if self.is_grown else [put]
-        kinds = {"pane": Kind(f"pane,({'|'.join(self.query.kinds)}),{window}{self.cells()}", self.checks(4), puts)}
+        kinds = {"pane": Kind(f"pane,({'|'.join(self.query.kinds)}),{window}{self.cells()}", self.checks(4), puts, 1, keys)}
         if self.query.mode == "RETRACTING":
-            kinds["retract"] = Kind(f"retract,{window}{self.cells()}", self.checks(3), [(RETRACTED, slice(0, 3))])
+            kinds["retract"] = Kind(f"retract,{window}{self.cells()}", self.checks(3), [(RETRACTED, slice(0, 3))], 0, keys)
         return kinds
 
     def works(self, lines: Sequence[str]) -> Tuple[List[Work], int]:
         """What lines do, and how many they are up to the first that is none of this query."""
         works: List[Work] = []
         count = 0
-        for tag, alike in groupby(lines, key=tag_of):
+        for tag, alike in groupby(lines, key=lambda line: line.partition(",")[0]):
             those = list(alike)
             rows = self.kinds[tag].rows(those) if tag in self.kinds else []
             works += self.kinds[tag].works(rows) if rows else []

@@ -586,7 +586,7 @@ def answer(asked: Namespace, room: str, out: BinaryIO) -> None:
 
     parted, sample = Parted(asked.program, asked.query, asked.keys), os.path.join(room, "sample.wsm")
     parted.judge(sample, parted.nearest(len(parted.names)), 0)
-    query = parted.query()
+    query = parted.query(["--keys", asked.keys])
     forms = FORMS.get(query.form, [query.form])
     types = [ranks_of(query, column) for column in query.columns]
     with client_of(asked, room) as client:

@@ -3,7 +3,7 @@ from __future__ import annotations
 
 import re
 from bisect import bisect_left
-from typing import Callable, Dict, Optional, Tuple
+from typing import Callable, Dict, Optional, Sequence, Tuple
 
 from .asking import Answer, Query, asked_of, read
 from .telling import BAD_QUERY, REJECTED, Ended
@@ -74,16 +74,20 @@ class Parted:
         text = re.sub(r"\b[DI]STREAM\b", form, self.text) if form else self.text
         return f"{', '.join([own, *(name for name in self.named if name not in there)])};\n{text}"
 
-    def query(self) -> Query:
-        """The query with all of its keys, by that of its first part."""
+    def query(self, words: Sequence[str], takes_new: bool = False) -> Query:
+        """The query with all of its keys, which a run of these words takes, or where it writes a stream or reads KEY, `many-keys`."""
+        answer = Answer(self.program, f"KEYS {', '.join(self.named) or 'p0'};\n{self.text}")
+        if answer.status:
+            raise Ended(f"{self.path}: {without_keys(answer.fault['told'])}", answer.status)
+        query = Query(answer, self.names, takes_new)
         try:
-            text = self.text_of(self.nearest(len(self.names)), 0)
+            if takes_new or query.form == "PANES" and not re.search(r"\bKEY\b", self.text):
+                self.answer("run", *words, self.path, "/dev/null")
+            else:
+                self.nearest(len(self.names))
         except Ended as why:
             raise Ended(f"{self.keys}: {str(why).removeprefix('wsm: ')}", why.status) from None
-        answer = Answer(self.program, text)
-        if answer.status == BAD_QUERY:
-            raise Ended(f"{self.path}: {without_keys(answer.fault['told'])}", BAD_QUERY)
-        return Query(answer, self.names)
+        return query
 
     def judge(self, path: str, parts: int, number: int, form: Optional[str] = None) -> None:
         """Writes the query of a part, which the program must accept."""

@@ -1,6 +1,7 @@
 """Takes what a run writes into tables, each line once, however often the run is begun anew over its rows.
 
-usage: wsm run QUERY [ROWS] | sink [--part NAME] [--keys KEYS] [--columns NAME,..] [--rows ROWS] [--from SOURCE] [--program PROGRAM] TABLE QUERY
+usage: wsm run QUERY [ROWS] | sink [--part NAME] [--columns NAME,..] [--rows ROWS] [--from SOURCE] [--program PROGRAM] TABLE QUERY
+       wsm run --keys KEYS [--new-keys [--most-keys N]] QUERY [ROWS] | sink --keys KEYS [--new-keys [--most-keys N]] .. TABLE QUERY
        sink [--part NAME] [--columns NAME,..] [--rows ROWS] --taken TABLE QUERY
        wsm live DIR --from SOURCE QUERY LOG | sink [--part NAME] [--columns NAME,..] --live DIR TABLE QUERY
 
@@ -22,8 +23,12 @@ status 1.
 The table taken has the query, how many lines were taken, the first and the last of them, and a sum of them all. They
 are written in the transaction in which the lines do their work, and as many lines of a run that is begun anew are
 passed over. Another query, or other lines, end it with status 1 and nothing written. Parts of one query by key, each
-with a NAME of its own, may share the tables. --keys takes the keys of a file, one a line, any number of them, where
-QUERY is a text without its KEYS clause, as `many-keys` does whose lines these may be.
+with a NAME of its own, may share the tables.
+
+--keys takes the keys of a file, one a line, any number of them, where QUERY is a text without its KEYS clause, and
+--new-keys others that come too, as the run of the same words does; the lines may also be those of `many-keys`. The file
+may grow at its end, unless the table has parts. A key is in the table by its text; of bytes that are no UTF-8, and of
+NUL, each stands as \\xHH there, and a backslash in front of such a text as \\x5c.
 
 --rows names the file that the run reads, which `keep` may have cut: the lines that the run writes for the rows that
 were kept are passed over, and those behind them go on counting where the lines of all rows stood. --taken prints how
@@ -39,15 +44,15 @@ sink took meanwhile with 8.
 QUERY must be the run's: a line of another one ends it with status 1 where its key, kind, window or a cell isn't one that
 QUERY may write; else it is taken for its own. What QUERY says is asked of PROGRAM, or where that is left out of the program that the variable WSM names, of `wsm` at the top of the repository
 or of that on PATH. It ends with status 2 by its words, 3, 4 and 6 by QUERY as `wsm` does, 7 where the tables can't be read
-or written. Where the lines end before those that were taken do, or in the middle of one, the run was killed: that is status
-6 too.
+or written. Where the lines end without an end row, before those that were taken do, or in the middle of one, the run was
+killed: that is status 6 too.
 """
 from __future__ import annotations
 
 import re
 import sys
 import zlib
-from itertools import groupby, islice
+from itertools import chain, groupby, islice
 from operator import methodcaller
 from subprocess import DEVNULL, PIPE, Popen
 from typing import TYPE_CHECKING, Dict, List, NamedTuple, Optional, Sequence
@@ -66,6 +71,9 @@ if TYPE_CHECKING:
 TAKEN = ("query", "columns", "lines", "first", "last", "sum")
 IS_REFUSED = methodcaller("startswith", "refused,")
 QUESTION = f"SELECT part, {', '.join(TAKEN)} FROM taken"
+NO_KEYS = "/dev/null"
+ODD = {byte: f"\\x{byte:02x}" for byte in (*range(32), *range(127, 256))}   # in the lines of the table taken
+IN_KEYS = {**ODD, **{byte: f"\\x{byte:02x}" for byte in b" ,;*\\"}}         # and in the keys of its query
 
 
 class Counted(NamedTuple):
@@ -87,8 +95,8 @@ class Sink:
     def __init__(self, asked: Namespace, head: Head, records_kept: int) -> None:
         self.head = head    # that of the file that the run reads, where rows were cut off
         self.counted = Counted(asked.program, asked.rows) if asked.program else None
-        self.source: Optional[str] = asked.source
-        self.query = query_in(asked)
+        self.words = words_of_run(asked)
+        self.query = query_in(asked, self.words)
         is_split = self.query.where is None or self.counted is not None and asking.is_counted(self.query)
         kept = records_kept if self.query.form == "PANES" else None
         self.counts = Counts(quoted(asked.part), asked.source is not None, is_split, head, kept)
@@ -98,8 +106,9 @@ class Sink:
         self.part: str = asked.part
         self.path: str = asked.query
         self.text = " ".join(asking.words_of(asking.read(self.path)))
-        if asked.keys:
-            self.text = f"KEYS {' , '.join(self.query.keys)} ; {self.text}"
+        if self.query.is_named:
+            keys = ["*"] if self.query.takes_new else [name.translate(IN_KEYS) for name in self.query.keys]
+            self.text = f"KEYS {' , '.join(keys)} ; {self.text}"
         self.lines = self.sum = self.seen = 0
         self.first = self.last = ""
         self.open()
@@ -150,22 +159,26 @@ class Sink:
                 self.check_other(part, dict(zip(TAKEN, found)))
 
     def check_mine(self, found: Dict[str, str]) -> None:
-        if found["query"] != self.text:
+        if found["query"] != self.text and not self.has_grown(found["query"]):
             raise Ended(f"{self.place.shown} has what another query wrote: {where_differ(self.text, found['query'])}. "
                         "A changed query wants a table of its own")
         if found["columns"] != ",".join(self.form.names):
             raise Ended(f"{self.place.shown} has the columns {found['columns']}, and not {','.join(self.form.names)}")
 
+    def has_grown(self, before: str) -> bool:
+        """Whether the file of the keys began with these before. With parts it may not grow: a key might be in two."""
+        (old, rest), (new, own) = before.split(" ; ", 1), self.text.split(" ; ", 1)
+        return self.query.is_named and not self.part and rest == own and (self.query.takes_new or new.startswith(f"{old} , "))
+
     def check_other(self, part: str, found: Dict[str, str]) -> None:
         """Parts have the same query but for its keys, and no key of theirs is in another one, but where the query speaks of it."""
-        keys, rest = found["query"].split(" ; ", 1)
-        own = self.text.split(" ; ", 1)[1]
+        (keys, rest), (mine, own) = found["query"].split(" ; ", 1), self.text.split(" ; ", 1)
         if not self.part or not part:
             raise Ended(f"{self.place.shown} has {'the part ' + part if part else 'lines of no part'}: say --part for each")
         if rest != own or found["columns"] != ",".join(self.form.names):
             raise Ended(f"{self.place.shown} has what another query wrote, in its part {part}: {where_differ(own, rest)}")
-        both = set(keys.removeprefix("KEYS ").split(" , ")) & self.query.key_set - set(re.findall(r"\bKEY \. (\w+)", rest))
-        if both:
+        theirs, ours = (set(some.removeprefix("KEYS ").split(" , ")) for some in (keys, mine))
+        if both := theirs & ours - set(re.findall(r"\bKEY \. (\w+)", rest)):
             raise Ended(f"the key {sorted(both)[0]} is in the part {part} of {self.place.shown} too")
 
     # ---- lines
@@ -206,7 +219,7 @@ class Sink:
         """Does the work of the next lines, which are counted in the same transaction."""
         if texts:
             total = zlib.crc32("\n".join([*texts, ""]).encode("latin-1"), self.sum)
-            number, taken = self.lines + len(texts), Taken(self.first or texts[0], texts[-1], total)
+            number, taken = self.lines + len(texts), Taken(self.first or texts[0].translate(ODD), texts[-1].translate(ODD), total)
             self.write(number, taken, [*work, *map(Work, self.counts.statements())])
             self.lines, (self.first, self.last, self.sum) = number, taken
 
@@ -228,8 +241,7 @@ class Sink:
         def selected_of(admitted: int) -> Optional[int]:
             if self.query.where is None or self.counted is None:
                 return admitted
-            source = ["--from", self.source] if self.source else []
-            return asking.selected(self.query, self.counted.program, source, self.counted.rows, line)
+            return asking.selected(self.query, self.counted.program, self.words, self.counted.rows, line)
 
         ended = self.counts.ended(line.decode("latin-1"), selected_of)
         self.write(self.lines, self.taken(), [Work(text) for text in ended])
@@ -243,30 +255,36 @@ class Sink:
 
     def pass_over(self, number: int, line: bytes) -> None:
         """A line that was taken before must be what it was."""
-        text = self.numbered(line)
+        text, is_last = self.numbered(line), number == self.lines
+        said = text.translate(ODD) if number == 1 or is_last else ""
         self.seen = zlib.crc32(line + b"\n", self.seen if number > 1 else 0)
-        is_last = number == self.lines
         if self.head.lines:     # the lines in front of it aren't written any more, so there is no sum of all
             self.seen = self.sum
-        if number == 1 and text != self.first or is_last and (text != self.last or self.seen != self.sum):
+        if number == 1 and said != self.first or is_last and (said != self.last or self.seen != self.sum):
             was = self.first if number == 1 else self.last
             raise Ended(f"line {number} is {shown(line)}, and {shown(was.encode('latin-1'))} was taken: "
-                        "these are other rows than before" if text != was else
+                        "these are other rows than before" if said != was else
                         f"the first {number} lines aren't those that were taken: these are other rows than before")
         self.counts.pass_over(text, is_last)
 
 
-def query_in(asked: Namespace) -> asking.Query:
+def words_of_run(asked: Namespace) -> List[str]:
+    """The words of the run whose lines these are."""
+    said = {"--from": asked.source, "--keys": asked.keys or asked.new_keys and NO_KEYS, "--most-keys": asked.most_keys}
+    return [*chain.from_iterable(pair for pair in said.items() if pair[1]), *["--new-keys"] * asked.new_keys]
+
+
+def query_in(asked: Namespace, words: Sequence[str]) -> asking.Query:
     """The query that is asked for, whose keys may stand in a file of their own. One that is rejected gets no table."""
     wsm = asked.program or asking.program()
-    if not asked.keys:
-        query = asking.query_of(asked.query, wsm)
-        if query.answer.status == REJECTED:
-            raise Ended(f"{asked.query}: {query.answer.fault['told']}", REJECTED)
-        return query
-    from .parted import Parted
+    if asked.keys or asked.new_keys:
+        from .parted import Parted
 
-    return Parted(wsm, asked.query, asked.keys).query()
+        return Parted(wsm, asked.query, asked.keys or NO_KEYS).query(words, asked.new_keys)
+    query = asking.query_of(asked.query, wsm)
+    if query.answer.status == REJECTED:
+        raise Ended(f"{asked.query}: {query.answer.fault['told']}", REJECTED)
+    return query
 
 
 def where_differ(text: str, other: str) -> str:
@@ -282,8 +300,9 @@ def where_differ(text: str, other: str) -> str:
 def words(given: Optional[Sequence[str]] = None) -> Namespace:
     parser = telling.parser_of("sink", __doc__)
     parser.add_argument("--part", default="")
-    for word in ("--keys", "--columns", "--rows", "--program"):
+    for word in ("--keys", "--most-keys", "--columns", "--rows", "--program"):
         parser.add_argument(word)
+    parser.add_argument("--new-keys", action="store_true")
     parser.add_argument("--from", dest="source")
     parser.add_argument("--live", metavar="DIR")
     parser.add_argument("--taken", action="store_true")
@@ -294,6 +313,8 @@ def words(given: Optional[Sequence[str]] = None) -> Namespace:
         parser.error("--program runs over the rows that --rows names")
     if asked.live and (asked.rows or asked.taken or asked.source):
         parser.error("--live takes the lines of `wsm live`, for which --rows, --from and --taken say nothing")
+    if asked.new_keys and asked.part:
+        parser.error("--part takes keys of which each is in one part, and --new-keys any")
     if asked.part and not re.fullmatch(NAME, asked.part):
         parser.error(f"{asked.part} can't name a part: a letter or _, then letters, digits and _, at most 63 in all")
     return asked
@@ -321,19 +342,20 @@ def take_all(sink: Sink, head: Head) -> None:
         raise Ended(f"{head.own} lines were to come for the rows that were kept, and {head.own - own} came", BAD_READ)
     if number < sink.lines:
         raise Ended(f"{number} lines came, and {sink.lines} were taken before: these are fewer rows than before", BAD_READ)
-    if end:
-        sink.end_run(end)
+    if end is None:
+        raise Ended(f"the lines end without an end row: the run was ended, and {number} lines are taken", BAD_READ)
+    sink.end_run(end)
 
 
 def check_rows(sink: Sink, wsm: str, rows: str) -> None:
     """A run over the rows must write the lines that were taken: one behind a filter reads others than `keep` judges."""
     total, last, head = 0, b"", sink.head
-    with Popen([wsm, "run", sink.path, rows], stdout=PIPE, stderr=DEVNULL) as run:
+    with Popen([wsm, "run", *sink.words, sink.path, rows], stdout=PIPE, stderr=DEVNULL) as run:
         assert run.stdout
         for last in islice(run.stdout, head.own, head.own + sink.lines - head.lines):
             total = zlib.crc32(last, total)
         run.kill()
-    is_same = sink.numbered(last.rstrip(b"\n")) == sink.last and (head.lines > 0 or total == sink.sum)
+    is_same = sink.numbered(last.rstrip(b"\n")).translate(ODD) == sink.last and (head.lines > 0 or total == sink.sum)
     if sink.lines > head.lines and not is_same:
         raise Ended(f"a run over {rows} writes other lines than were taken: cut the very rows that the run reads, with no filter in between")
 
