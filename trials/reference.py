@@ -1,7 +1,7 @@
 #!/usr/bin/env python3
 """What a query means, in plain Python: the rows that it writes for rows that it reads.
 
-usage: reference.py QUERY [ROWS]
+usage: reference.py [--keys KEYS [--new-keys]] QUERY [ROWS]
        reference.py --explain QUERY
        reference.py --bytes VERSION QUERY OUT
 
@@ -313,16 +313,17 @@ def rejection(verdict):
     return f"V{RULES.index(name) + 1} {name} in {part} at {place}"
 
 
-def run(query_text, rows):
-    """The status of a run, what it tells on standard error, and what it writes."""
+def run(query_text, rows, names=None, most=None):
+    """The status of a run, what it tells on standard error, and what it writes. With names the text has no KEYS clause."""
     try:
-        query = Query(query_text)
+        query = Query(query_text if names is None else f"KEYS p0;\n{query_text}")
         verdict = Program(query).verdict()
     except Refused as why:
         return 3, f"wsm: {why}\n", ""
     if verdict.startswith("rejected"):
         return 4, f"wsm: {rejection(verdict)}\n", ""
-    return 0, "", Stream(query).text(rows)
+    query.keys = names or query.keys
+    return 0, "", Stream(query, most).text(rows)
 
 
 def read(name):
@@ -339,8 +340,10 @@ def main(words):
         with open(words[3], "wb") as file:
             file.write(Program(Query(read(words[2])), has_tests=version == 2).bytes(version))
     else:
+        names, *words = [read(words[1]).removesuffix("\n").split("\n"), *words[2:]] if words[0] == "--keys" else [None, *words]
+        most, *words = [10**9, *words[1:]] if words[0] == "--new-keys" else [None, *words]
         rows = read(words[1]) if len(words) > 1 else sys.stdin.buffer.read().decode("latin-1")
-        status, told, written = run(read(words[0]), re.split(r"[\r\n]+", rows))
+        status, told, written = run(read(words[0]), re.split(r"[\r\n]+", rows), names, most)
         sys.stdout.write(written)
         sys.stderr.write(told)
         sys.exit(status)
