@@ -42,10 +42,10 @@ another sum, or lines of another DIR, query or source end it with status 9 and n
 sink took meanwhile with 8.
 
 QUERY must be the run's: a line of another one ends it with status 1 where its key, kind, window or a cell isn't one that
-QUERY may write; else it is taken for its own. What QUERY says is asked of PROGRAM, or where that is left out of the program that the variable WSM names, of `wsm` at the top of the repository
-or of that on PATH. It ends with status 2 by its words, 3, 4 and 6 by QUERY as `wsm` does, 7 where the tables can't be read
-or written. Where the lines end without an end row, before those that were taken do, or in the middle of one, the run was
-killed: that is status 6 too.
+QUERY may write; else it is taken for its own. What QUERY says is asked of PROGRAM, or where that is left out of the program
+that the variable WSM names, of `wsm` at the top of the repository or of that on PATH. It ends with status 2 by its words,
+3, 4 and 6 by QUERY and KEYS as `wsm` does, 7 where the tables can't be read or written. Where the lines end without an end
+row, before those that were taken do, or in the middle of one, the run was killed: that is status 6 too.
 """
 from __future__ import annotations
 
