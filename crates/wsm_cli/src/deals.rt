@@ -1,16 +1,15 @@
 //! What dealing does with files and standard input.
 
 use crate::files::{end_of, read, write_all};
-use crate::numbers::number_of;
 use crate::stop::{Stop, WordsFault};
 use std::alloc::{AllocError, Global};
 use std::fs::{self, File};
 use std::io::{self, Read};
 use std::os::unix::fs::MetadataExt;
 use std::rt::Files;
-use wsm::{Ahead, End, Guarded, Rows, Shares, SharesRefusal, deal};
+use wsm::{End, Guarded, Shares, SharesRefusal, deal_over};
 use wsm_deal::add_part;
-use wsm_words::DealJob;
+use wsm_words::{DealJob, number_of};
 
 /// The name that standard input has among the files.
 const STANDARD_INPUT: &str = "/dev/stdin";
@@ -34,12 +33,12 @@ pub fn deal_or_tell<R: Files + AllocGlobal + Input + Print>(
 // The keys of a file, for so many parts.
 fn shares_of<R: Files + AllocGlobal>(rt: &R, keys: &String, parts: &String) -> Result<Shares, End> {
     let text = read(rt, keys)?;
-    Ok(Shares::for_parts(rt.alloc(), &text, number_of(parts))?)
+    Ok(Shares::for_parts(rt.alloc(), &text, number_of(parts.as_str()))?)
 }
 
 // Writes the clause of a part's keys.
 fn clause<R: AllocGlobal + Print>(rt: &R, shares: &Shares, part: &String) -> Result<bool, End> {
-    let Some(part) = number_of(part) else {
+    let Some(part) = number_of(part.as_str()) else {
         return Err(End::from(SharesRefusal::BadNumber));
     };
     let text = shares.clause_of(rt.alloc(), part)?;
@@ -55,12 +54,12 @@ fn dealt<R: Files + AllocGlobal + Input>(
     match &job.rows {
         None => {
             require_others(rt, shares, job, STANDARD_INPUT)?;
-            Ok(deal_over(rt, shares, &job.out, rt.reader())?)
+            Ok(deal_to_files(rt, shares, &job.out, rt.reader())?)
         }
         Some(name) => match File::open(rt, name.as_str()) {
             Ok(rows) => {
                 require_others(rt, shares, job, name.as_str())?;
-                Ok(deal_over(rt, shares, &job.out, rows)?)
+                Ok(deal_to_files(rt, shares, &job.out, rows)?)
             }
             Err(error) => Err(Stop::End(end_of(&error, End::ReadFailed))),
         },
@@ -106,7 +105,8 @@ fn is_same(place: Option<(u64, u64)>, other: Option<(u64, u64)>) -> bool {
     place.is_some() && place == other
 }
 
-fn deal_over<R: Files + AllocGlobal, I: Read + Drop>(
+// Makes the files of the parts, and hands the reader of the rows on.
+fn deal_to_files<R: Files + AllocGlobal, I: Read + Drop>(
     rt: &R,
     shares: &Shares,
     out: &String,
@@ -120,7 +120,6 @@ fn deal_over<R: Files + AllocGlobal, I: Read + Drop>(
             Err(error) => return Err(end_of(&error, End::WriteFailed)),
         }
     }
-    let mut rows = Rows::new(rt.alloc(), Ahead::new(rt.alloc(), rows)?);
-    deal(shares, &mut rows, &mut parts)?;
+    deal_over(rt.alloc(), shares, rows, &mut parts)?;
     Ok(true)
 }

@@ -3,13 +3,13 @@
 use crate::files::{input_of, read};
 use crate::numbers::number_in;
 use crate::stop::{RowsFault, Stop};
-use crate::sums::{sum_of_program, sum_of_text};
 use std::alloc::Global;
 use std::fs::File;
 use std::io::{self, BufWriter, Eprint, Read, Write};
 use std::rt::Files;
-use wsm::{End, Guarded, Rows, accepted_of};
-use wsm_kept::{Asked, Cut, Head, KeepEnd, cut_rows, write_cut};
+use wsm::{End, Guarded, accepted_of};
+use wsm_explain::input_sum;
+use wsm_kept::{Asked, Head, KeepEnd, cut_over};
 use wsm_replace::{LinesFault, Place, WholeLines, size_of};
 use wsm_rules::Verified;
 use wsm_words::KeepJob;
@@ -23,13 +23,14 @@ struct Wanted {
 }
 
 impl Wanted {
-    // Cuts rows, which are all that there are or the first of them.
-    fn cut<R: Read + Drop>(
+    // Cuts lines, which are all that there are or the first of them, and writes what stands in their place and the rows behind them.
+    fn cut<I: Read + Drop, W: Write>(
         self,
         alloc: Global,
         is_whole: bool,
-        rows: &mut Rows<R>,
-    ) -> Result<Cut, KeepEnd> {
+        lines: &mut WholeLines<I>,
+        out: &mut W,
+    ) -> Result<Head, KeepEnd> {
         let Wanted {
             verified,
             sum,
@@ -41,7 +42,8 @@ impl Wanted {
             taken,
             is_whole,
         };
-        cut_rows(alloc, verified, asked, rows)
+        let mut out = Guarded::new(out);
+        cut_over(alloc, verified, asked, lines, &mut out)
     }
 }
 
@@ -79,15 +81,12 @@ fn wanted_of<R: Files + AllocGlobal>(
     most: Option<u64>,
 ) -> Result<Wanted, End> {
     let bytes = read(rt, &job.query)?;
-    let verified = accepted_of(rt.alloc(), input_of(job.program, &bytes))?;
-    let sum = if job.program {
-        sum_of_program(rt.alloc(), &bytes)?
-    } else {
-        sum_of_text(&bytes)
-    };
+    let input = input_of(job.program, &bytes);
+    let verified = accepted_of(rt.alloc(), input)?;
+    let sum = input_sum(rt.alloc(), input)?;
     Ok(Wanted {
         verified,
-        sum,
+        sum: u64::from(sum),
         taken,
         most: most.unwrap_or(u64::MAX),
     })
@@ -97,13 +96,13 @@ fn wanted_of<R: Files + AllocGlobal>(
 fn keep_input<R: AllocGlobal + Input + Print + Eprint>(rt: &R, wanted: Wanted) -> Result<(), Stop> {
     let is_whole = wanted.most == u64::MAX;
     let mut lines = WholeLines::new(rt.alloc(), rt.reader(), wanted.most)?;
-    let head = cut_over(rt.alloc(), wanted, is_whole, &mut lines, io::writer(rt))?;
+    let head = cut_lines(rt.alloc(), wanted, is_whole, &mut lines, io::writer(rt))?;
     tell_head(rt, &head);
     Ok(())
 }
 
 // Cuts the rows of a reader, and writes what stands in their place and all that is behind them.
-fn cut_over<I: Read + Drop, W: Write + Drop>(
+fn cut_lines<I: Read + Drop, W: Write + Drop>(
     alloc: Global,
     wanted: Wanted,
     is_whole: bool,
@@ -113,7 +112,7 @@ fn cut_over<I: Read + Drop, W: Write + Drop>(
     let Ok(mut out) = BufWriter::new(alloc, out) else {
         return Err(Stop::End(End::Memory));
     };
-    match cut_lines(alloc, wanted, is_whole, lines, &mut out) {
+    match wanted.cut(alloc, is_whole, lines, &mut out) {
         Ok(head) => {
             lines.hand_on(&mut out)?;
             Ok(head)
@@ -129,21 +128,6 @@ fn stop_of(end: KeepEnd, fault: Option<LinesFault>) -> Stop {
         Some(LinesFault::Memory) => Stop::End(End::Memory),
         None => Stop::from(end),
     }
-}
-
-// Cuts lines, and writes what stands in their place and the rows behind them.
-fn cut_lines<I: Read + Drop, W: Write>(
-    alloc: Global,
-    wanted: Wanted,
-    is_whole: bool,
-    lines: &mut WholeLines<I>,
-    out: &mut W,
-) -> Result<Head, KeepEnd> {
-    let mut rows = Rows::new(alloc, lines);
-    let mut out = Guarded::new(out);
-    let cut = wanted.cut(alloc, is_whole, &mut rows)?;
-    write_cut(alloc, &cut, &mut rows, &mut out)?;
-    Ok(cut.head)
 }
 
 // Cuts a file in place, while nobody else may write it.
@@ -170,7 +154,7 @@ fn keep_at<R: Files<File = File> + AllocGlobal + Eprint>(
     let is_whole = was.len() <= wanted.most;
     let mut lines = WholeLines::new(rt.alloc(), file, wanted.most)?;
     let mut new = place.new_file(rt)?;
-    let head = cut_over(rt.alloc(), wanted, is_whole, &mut lines, &new)?;
+    let head = cut_lines(rt.alloc(), wanted, is_whole, &mut lines, &new)?;
     let size = size_of(&new)?;
     if was.len() <= size {
         let _ = eprintln!(rt; "wsm: ROWS stays as it is, since it would be no smaller");

@@ -1,5 +1,8 @@
 //! Runs over any number of keys.
 
+ghost use Rattle.std.specs.Prelude.{ℕ, List, Option, IfOk};
+ghost use Rattle.wsm_keyed_run.specs.Written.{KeyedOver};
+
 use crate::counting::Counting;
 use crate::files::{end_of, read};
 use crate::metrics::{Ran, write_run};
@@ -8,9 +11,9 @@ use crate::stop::{Stop, WordsFault};
 use std::fs::File;
 use std::io::{self, Eprint, Read};
 use std::rt::Files;
-use wsm::{End, Guarded, Rows, SharesRefusal};
+use wsm::{End, Guarded, SharesRefusal};
 use wsm_key_names::{KeyNames, KeyNamesRefusal};
-use wsm_keyed_run::{KeyedTotals, run_keyed};
+use wsm_keyed_run::{KeyedTotals, run_keyed_over};
 use wsm_words::RunJob;
 
 /// Runs a query without a KEYS clause over rows, by the names of a file, tells how many names were new, and writes what was counted
@@ -76,27 +79,30 @@ fn run_rows<R: Files + AllocGlobal + Input + Print>(
     most: u32,
 ) -> Result<(KeyedTotals, Ran), Stop> {
     match &job.rows {
-        None => run_over(rt, job, query, names, most, rt.reader()),
+        None => write_run_over(rt, job, query, names, most, rt.reader()),
         Some(rows) => match File::open(rt, rows.as_str()) {
-            Ok(rows) => run_over(rt, job, query, names, most, rows),
+            Ok(rows) => write_run_over(rt, job, query, names, most, rows),
             Err(error) => Err(Stop::End(end_of(&error, End::ReadFailed))),
         },
     }
 }
 
-fn run_over<R: AllocGlobal + Print, I: Read + Drop>(
+// Hands the reader of the rows on, and counts what is written where that is asked for. Where a run ends well, the numbers that are told
+// are those of all rows that the reader has.
+fn write_run_over<R: AllocGlobal + Print, I: Read + Drop>(
     rt: &R,
     job: &RunJob,
     query: &[u8],
     names: KeyNames,
     most: u32,
     rows: I,
-) -> Result<(KeyedTotals, Ran), Stop> {
+) -> Result<(KeyedTotals, Ran), Stop>
+    ensures { IfOk result (λ both. (old : Option (List ℕ)) × (new : Option (List ℕ)) × KeyedOver query.now names most (I.remaining rows) old new both.1.totals) }
+{
     let alloc = rt.alloc();
-    let mut rows = Rows::new(alloc, rows);
     let writer = Counting::new(alloc, io::writer(rt), job.metrics.is_some());
     let mut output = Guarded::new(writer);
-    let run = run_keyed(alloc, query, names, most, &mut rows, &mut output)?;
+    let run = run_keyed_over(alloc, query, names, most, rows, &mut output)?;
     let ran = Ran {
         totals: run.totals,
         counts: None,

@@ -6,12 +6,12 @@ use crate::files::{input_of, read};
 use crate::numbers::number_or;
 use crate::sources::{Bound, bytes_of_source, source_for};
 use crate::stop::{Stop, WordsFault};
-use crate::sums::sum_of_live;
 use std::fs::File;
 use std::io::{self, Eprint, Write};
 use std::rt::Files;
 use std::time::{Clock, Duration};
 use wsm::accepted_of;
+use wsm_explain::live_sum;
 use wsm_live_loop::{LiveStop, Settings, feed, follow, position_of};
 use wsm_live_run::live_run;
 use wsm_rules::Verified;
@@ -93,10 +93,11 @@ pub fn live<R: Files<File = File> + AllocGlobal + Input + Print + Eprint + Clock
     let cut = number_or(job.cut.as_ref(), "--cut", CUT)?;
     let goes_on = goes_on_of(job.lost.as_ref())?;
     let bytes = read(rt, over.query)?;
-    let verified = accepted_of(rt.alloc(), input_of(job.program, &bytes))?;
+    let input = input_of(job.program, &bytes);
+    let verified = accepted_of(rt.alloc(), input)?;
     let bound = source_for(rt, over.from, &verified)?;
     let source = bytes_of_source(rt, over.from)?;
-    let sum = sum_of_live(rt.alloc(), job.program, &bytes, &source, over.is_fed())?;
+    let sum = live_sum(rt.alloc(), input, &source, over.is_fed())?;
     let ready = Ready {
         verified,
         bound,

@@ -23,7 +23,6 @@ mod progress;
 mod runs;
 mod sources;
 mod stop;
-mod sums;
 mod telling;
 mod watermarks;
 

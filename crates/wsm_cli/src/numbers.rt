@@ -1,21 +1,13 @@
 //! Numbers of the words.
 
 use crate::stop::{Stop, WordsFault};
-
-/// The number that a word writes in digits alone.
-pub fn number_of(word: &String) -> Option<usize> {
-    if word.as_bytes().iter().all(|byte| byte.is_ascii_digit()) {
-        word.as_str().parse::<usize>().ok()
-    } else {
-        None
-    }
-}
+use wsm_words::number_of;
 
 /// The number that an option has, if it is given.
 pub fn number_in(word: Option<&String>, option: &'static str) -> Result<Option<u64>, Stop> {
     match word {
         None => Ok(None),
-        Some(word) => match number_of(word) {
+        Some(word) => match number_of(word.as_str()) {
             Some(number) => Ok(Some(number as u64)),
             None => Err(Stop::Words(WordsFault::NoNumber(option))),
         },

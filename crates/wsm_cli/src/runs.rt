@@ -1,5 +1,8 @@
 //! Runs of a query or a program.
 
+ghost use Rattle.std.specs.Prelude.{ℕ, List, Option, IfOk};
+ghost use Rattle.wsm.specs.Written.{InputWritten};
+
 use crate::counting::Counting;
 use crate::files::{accepted, end_of, input_of, read};
 use crate::keyed::run_named;
@@ -10,7 +13,7 @@ use std::fs::File;
 use std::io::{self, Eprint, Read};
 use std::rt::Files;
 use std::time::Clock;
-use wsm::{End, Guarded, Rows, run_input};
+use wsm::{End, Guarded, Input as Judged, run_over};
 use wsm_words::RunJob;
 
 /// Runs a query or a program over rows, or over a log by a source, and writes what was counted where that is asked for.
@@ -48,26 +51,31 @@ fn run_declared<R: Files<File = File> + AllocGlobal + Input + Print + Eprint + C
 // Runs a query or a program over a file of rows, or over standard input.
 fn run_rows<R: Files + AllocGlobal + Input + Print>(rt: &R, job: &RunJob) -> Result<Ran, End> {
     let query = read(rt, &job.query)?;
+    let input = input_of(job.program, &query);
+    let is_counted = job.metrics.is_some();
     match &job.rows {
-        None => run_over(rt, job, &query, rt.reader()),
+        None => write_run_over(rt, input, is_counted, rt.reader()),
         Some(rows) => match File::open(rt, rows.as_str()) {
-            Ok(rows) => run_over(rt, job, &query, rows),
+            Ok(rows) => write_run_over(rt, input, is_counted, rows),
             Err(error) => Err(end_of(&error, End::ReadFailed)),
         },
     }
 }
 
-fn run_over<R: AllocGlobal + Print, I: Read + Drop>(
+// Hands the reader of the rows on, and counts what is written where that is asked for. Where a run of a query's text ends well, the
+// numbers that are told are those of all rows that the reader has.
+fn write_run_over<R: AllocGlobal + Print, I: Read + Drop>(
     rt: &R,
-    job: &RunJob,
-    query: &[u8],
+    input: Judged<'_>,
+    is_counted: bool,
     rows: I,
-) -> Result<Ran, End> {
+) -> Result<Ran, End>
+    ensures { IfOk result (λ ran. (old : Option (List ℕ)) × (new : Option (List ℕ)) × InputWritten input.entry (I.remaining rows) old new ran.totals) }
+{
     let alloc = rt.alloc();
-    let mut rows = Rows::new(alloc, rows);
-    let writer = Counting::new(alloc, io::writer(rt), job.metrics.is_some());
+    let writer = Counting::new(alloc, io::writer(rt), is_counted);
     let mut output = Guarded::new(writer);
-    let totals = run_input(alloc, input_of(job.program, query), &mut rows, &mut output)?;
+    let totals = run_over(alloc, input, rows, &mut output)?;
     Ok(Ran {
         totals,
         counts: None,

@@ -6,19 +6,19 @@ ghost use Rattle.wsm_turns.specs.Clocks.{AreClocks};
 use crate::counts::Teller;
 use crate::files::{accepted, end_of};
 use crate::metrics::write_rows;
-use crate::numbers::{number_of, number_or};
+use crate::numbers::number_or;
 use crate::stop::{Stop, WordsFault};
-use std::alloc::{AllocError, Global};
+use std::alloc::Global;
 use std::fs::File;
 use std::io::{self, Eprint, Read};
 use std::rt::Files;
 use wsm::{End, Guarded};
 use wsm_log_run::{LogCounts, end_of_log};
-use wsm_record::{DeclaredField, Field, FieldType, Name, Names, Schema, SchemaRefusal, Ty};
-use wsm_row_watermarks::{FIRST_PLACE, Rules, Times, Totals, write_watermarks};
+use wsm_record::Schema;
+use wsm_row_watermarks::{FIRST_PLACE, Rules, Times, Totals, schema_by_source, write_watermarks};
 use wsm_rules::Verified;
 use wsm_turns::{Clocks, clocks_of};
-use wsm_words::{Agreement, WatermarksJob};
+use wsm_words::{Agreement, WatermarksJob, number_of};
 
 /// Writes the rows of a file, or of standard input, with watermarks among them, tells what was odd, and writes what was
 /// counted where that is asked for.
@@ -118,7 +118,7 @@ fn rules_for(alloc: Global, verified: &Verified, job: &WatermarksJob) -> Result<
 fn place_of(cell: Option<&String>) -> Result<Option<usize>, Stop> {
     match cell {
         None => Ok(None),
-        Some(word) => match number_of(word) {
+        Some(word) => match number_of(word.as_str()) {
             Some(cell) if FIRST_PLACE < cell => Ok(Some(cell - 1)),
             _ => Err(Stop::Words(WordsFault::NoCell)),
         },
@@ -153,67 +153,9 @@ fn clocks_for(agreement: &Agreement, verified: &Verified) -> Result<Clocks, Stop
 
 // What a query declares, with the source of the watermarks first.
 fn schema_for(alloc: Global, schema: &Schema, source: Option<&String>) -> Result<Schema, Stop> {
-    let first = match (source, schema.sources().len()) {
-        (None, 0) => 0,
-        (Some(name), count) if count != 0 => match schema.sources().number_of(name.as_bytes()) {
-            Some(number) => number,
-            None => return Err(Stop::Words(WordsFault::NoSource)),
-        },
-        _ => return Err(Stop::Words(WordsFault::NoSource)),
-    };
-    match copied(alloc, schema, first) {
-        Ok(schema) => Ok(schema),
-        Err(_) => Err(Stop::End(End::Memory)),
-    }
-}
-
-// The same schema, with the source of a number first.
-fn copied(alloc: Global, schema: &Schema, first: u16) -> Result<Schema, SchemaRefusal> {
-    let keys = names_in(alloc, schema.keys(), 0)?;
-    let sources = names_in(alloc, schema.sources(), first)?;
-    let fields = fields_in(alloc, schema.fields())?;
-    Schema::new(alloc, &keys, &fields, &sources)
-}
-
-// Names, with the one of a number first.
-fn names_in(alloc: Global, names: &Names, first: u16) -> Result<Vec<Name>, AllocError> {
-    let mut list = Vec::new(alloc);
-    add_name(names, first, &mut list)?;
-    for number in 0..names.len() as u16 {
-        if number != first {
-            add_name(names, number, &mut list)?;
-        }
-    }
-    Ok(list)
-}
-
-fn add_name(names: &Names, number: u16, list: &mut Vec<Name>) -> Result<(), AllocError> {
-    if names.len() <= number as usize {
-        return Ok(());
-    }
-    match Name::new(names.text_of(number)) {
-        Some(name) => Ok(list.push(name)?),
-        None => Ok(()),
-    }
-}
-
-fn fields_in(alloc: Global, fields: &[DeclaredField]) -> Result<Vec<Field>, AllocError> {
-    let mut list = Vec::new(alloc);
-    for field in fields {
-        if let Some(name) = Name::new(field.name.as_bytes()) {
-            list.push(Field {
-                name,
-                ty: type_of(alloc, &field.ty)?,
-            })?;
-        }
-    }
-    Ok(list)
-}
-
-fn type_of(alloc: Global, ty: &FieldType) -> Result<Ty, AllocError> {
-    match ty {
-        FieldType::Int { lo, hi } => Ok(Ty::Int { lo: *lo, hi: *hi }),
-        FieldType::Bool => Ok(Ty::Bool),
-        FieldType::Enum(names) => Ok(Ty::Enum(names_in(alloc, names, 0)?)),
+    let named = source.map(|name| name.as_bytes());
+    match schema_by_source(alloc, schema, named)? {
+        Some(schema) => Ok(schema),
+        None => Err(Stop::Words(WordsFault::NoSource)),
     }
 }

@@ -1,6 +1,6 @@
 use Rattle.wsm_csv.specs.declared.guarded.Guarded.{Guarded}
 use Rattle.wsm_deal.specs.Parts.{AreNew, NoneFailed}
-use Rattle.wsm_cli.proofs.deals.deal_over.Given as goal
+use Rattle.wsm_cli.proofs.deals.deal_to_files.Given as goal
 
 -- the parts so far are new, and their files work
 abbrev pub invariant-loop-number : goal.invariant-loop-number

@@ -3,7 +3,7 @@ use Rattle.std.specs.Prelude.{slice_get}
 use Rattle.wsm_csv.specs.declared.guarded.Guarded.{Guarded}
 use Rattle.wsm_deal.specs.Parts.{Has}
 use Rattle.wsm_deal.specs.declared.part.Part.{Part}
-use Rattle.wsm_cli.proofs.deals.deal_over.Goals as goal
+use Rattle.wsm_cli.proofs.deals.deal_to_files.Goals as goal
 
 -- nothing stands in an empty list
 none_there : {A P : Type 0} (k : ℕ) (p : A) → slice_get [] k ≡ Some p → P
@@ -18,8 +18,8 @@ loop-number-init g c = record {
   works = none_of (λ (p : Part (Guarded g.row.R-File.Denot)). p.out.failed ≡ false) c.new-parts.result.items c.new-parts.ensures.items;
 }
 
-pub deal-requires-clause-new : goal.deal-requires-clause-new
-deal-requires-clause-new g c = rw c.deref_mut.ensures.value c.loop-number.invariant.new
+pub deal_over-requires-clause-new : goal.deal_over-requires-clause-new
+deal_over-requires-clause-new g c = rw c.deref_mut.ensures.value c.loop-number.invariant.new
 
-pub deal-requires-clause-works : goal.deal-requires-clause-works
-deal-requires-clause-works g c = rw c.deref_mut.ensures.value c.loop-number.invariant.works
+pub deal_over-requires-clause-works : goal.deal_over-requires-clause-works
+deal_over-requires-clause-works g c = rw c.deref_mut.ensures.value c.loop-number.invariant.works
