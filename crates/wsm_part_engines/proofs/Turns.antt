@@ -14,11 +14,11 @@ use Rattle.wsm_admission.specs.declared.verdict.Refusal.{Refusal}
 use Rattle.wsm_admission.specs.Admission as admission
 use Rattle.wsm_admission.specs.declared.clock.Clock.{Clock}
 use Rattle.wsm_admission.specs.declared.verdict.Admitted.{Admitted}
-use Rattle.wsm_admission.specs.Clock.{admitted_count, late_count, least, refused_count, verdict_at}
+use Rattle.wsm_admission.specs.Clock.{admitted_count, late_count, least, refused_count, verdict_at, watermark_of}
 use Rattle.wsm_admission.specs.Admission.{answer, counter, decision, marks_with}
 use Rattle.wsm_semantics.specs.declared.out_row.OutRow.{OutRow}
 use Rattle.wsm_semantics.specs.declared.out_row.OutRow.TheVariants.{Pane, Retract, Istream, Dstream, Rstream}
-use Rattle.wsm_semantics.specs.Query.{Query, verdict_on}
+use Rattle.wsm_semantics.specs.Query.{Query, mark, verdict_on}
 use Rattle.wsm_semantics.specs.declared.ending.Totals.{Totals}
 use Rattle.wsm_semantics.specs.Firings.{firings, firings_so_far}
 use Rattle.wsm_semantics.specs.Relation.{turn_rows}
@@ -213,6 +213,12 @@ module _ (p : Program) (whole : IsTrue (is_program p)) (panes_form : p.header.fo
       let fires : fired ≡ counter (length (firings_so_far q past)) =
       fits.fired ∙ ap counter (law.fired (map Ok past)) ∙ ap (λ (h : List Event). counter (length (firings_so_far q h))) (events_all past) in
       λ i. record { rows = fits.fed i; admitted = admitted i; late = late i; refused = refused i; panes = fires i }
+
+  pub mark_is : (front : admission.State) (engines : List (Option EngineState)) (fed fired : ℕ) (rows : List OutRow) (past : List Event) → FitsBy names (record { program = p; front = front; engines = engines; fed = fed; fired = fired; rows = rows }) past
+      → front.mark ≡ mark q past
+  mark_is front engines fed fired rows past fits =
+      let there : admission.Fits q.shape q.declared (kept past).front past = subst (admission.Fits q.shape q.declared (kept past).front) (events_all past) (law.front (map Ok past)) in
+      ap (λ (f : admission.State). f.mark) fits.front ∙ there.mark ∙ ap (λ (c : Clock). watermark_of c q.declared past) (law.clock (map Ok past))
 
   -- ---- turns
 

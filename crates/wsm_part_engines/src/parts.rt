@@ -1,13 +1,15 @@
 //! A front and the engines of all parts.
 
-ghost use Rattle.std.specs.Prelude.{◌≡◌, ◌<◌, ◌≤◌, ℕ, List, [], length, Ok, IfOk, IfErr, MatchOption, slice_get, Some, replicate};
+ghost use Rattle.std.specs.Prelude.{◌≡◌, ◌<◌, ◌≤◌, ℕ, List, [], length, Ok, IfOk, IfErr, IsTrue, MatchOption, slice_get, Some, replicate};
 ghost use Rattle.wsm_record.specs.declared.limits.TheConstants.{MAX_NAMES, MAX_SOURCES};
 ghost use Rattle.wsm_record.specs.Event.{Event as AnyEvent, event_of};
 ghost use Rattle.wsm_record.specs.Schema.{source_count};
 ghost use Rattle.wsm_admission.specs.Clock.{fits_declared};
 ghost use Rattle.wsm_admission.specs.Admission.{marks_with};
 ghost use Rattle.wsm_semantics.specs.ByNumber.{row_by};
-ghost use Rattle.wsm_program.specs.Program.{Program as AnyProgram};
+ghost use Rattle.wsm_semantics.specs.Query.{mark};
+ghost use Rattle.wsm_program.specs.Program.{Program as AnyProgram, is_program};
+ghost use Rattle.wsm_program.specs.View.{header_of};
 ghost use Rattle.wsm_engine.specs.Meaning.{totals_of};
 ghost use Rattle.wsm_part_programs.specs.Names.{of_names};
 ghost use Rattle.wsm_part_engines.specs.Fits.{by_number, number_of, Fits, IsPlaced};
@@ -21,10 +23,11 @@ use crate::refusal::PartsRefusal;
 use crate::slots::count_open;
 use std::alloc::{AllocError, Global};
 use std::marker::Model;
+use std::mem;
 use wsm_admission::{Admission, Admitted, Refusal};
 use wsm_engine::Totals;
-use wsm_program::Program;
-use wsm_record::{Event, Form, Schema};
+use wsm_program::{Header, Program};
+use wsm_record::{Event, Form, Schema, Value};
 use wsm_rules::Verified;
 
 /// A front and the engines of all parts, which together answer what the query of a program answers over any number of names. A part has
@@ -38,6 +41,8 @@ pub struct Parts {
     engines: Engines,
     fed: u64,
     fired: u64,
+    // Of the last record whose key came by its number, for the next.
+    values: Vec<Value>,
 }
 
 impl Model for Parts {
@@ -79,6 +84,7 @@ impl Parts {
             engines,
             fed: 0,
             fired: 0,
+            values: Vec::new(alloc),
         })
     }
 
@@ -125,6 +131,44 @@ impl Parts {
         }
     }
 
+    /// The same with an event whose key is its number among all names: part and place are split off it, and the values of a record are
+    /// copied, into the memory of those before.
+    ///
+    /// # Errors
+    ///
+    /// Memory was refused. Nothing is known of what is kept then.
+    pub fn feed_numbered(
+        &mut self,
+        event: &Event,
+        values_fit: bool,
+    ) -> Result<Option<Refusal>, AllocError>
+        requires { values_fit ≡ fits_declared self.old.program.header.schema (event_of event.now) }
+        ensures program { self.new.program ≡ self.old.program }
+        ensures feeds { IfOk result (Feeds self.old self.new (event_of event.now)) }
+    {
+        match event {
+            Event::Record {
+                key: Some(number),
+                time,
+                values,
+            } => {
+                let block = self.block() as u32;
+                let placed = Event::Record {
+                    key: Some(*number % block),
+                    time: *time,
+                    values: copied(&mut self.values, values)?,
+                };
+                let refusal = self.feed(*number / block, &placed, values_fit)?;
+                if let Event::Record { values, .. } = placed {
+                    self.values = values;
+                }
+                Ok(refusal)
+            }
+            Event::Record { key: None, .. } => self.feed(0, event, values_fit),
+            Event::Watermark { .. } => self.feed(0, event, values_fit),
+        }
+    }
+
     /// How many rows the last event wrote.
     pub fn row_count(&self) -> usize
         ensures { result ≡ length self.now.rows }
@@ -147,6 +191,14 @@ impl Parts {
         &self.program.header().schema
     }
 
+    /// The declarations of the program.
+    pub fn header(&self) -> &Header
+        ensures header { header_of result.now ≡ self.now.program.header }
+        ensures lawful { IsTrue (is_program self.now.program) }
+    {
+        self.program.header()
+    }
+
     /// How many keys a part has.
     pub fn block(&self) -> usize
         ensures block { result ≡ length self.now.program.header.schema.keys }
@@ -163,6 +215,13 @@ impl Parts {
         count_open(&self.engines.slots)
     }
 
+    /// The watermark.
+    pub fn mark(&self) -> i64
+        ensures { (p : AnyProgram) (names : List (List ℕ)) (past : List AnyEvent) → Fits p names self.now past → result ≡ mark (of_names p names) past }
+    {
+        self.front.mark()
+    }
+
     /// What all events so far come to.
     pub fn totals(&self) -> Totals
         ensures { (p : AnyProgram) (names : List (List ℕ)) (past : List AnyEvent) → Fits p names self.now past → result ≡ totals_of (of_names p names) past }
@@ -175,6 +234,17 @@ impl Parts {
             panes: self.fired,
         }
     }
+}
+
+// These values, in the memory of others, which are gone.
+fn copied(memory: &mut Vec<Value>, values: &[Value]) -> Result<Vec<Value>, AllocError>
+    ensures { IfOk result (λ copy. copy.items ≡ values.now) }
+{
+    let alloc = *memory.allocator();
+    let mut copy = mem::replace(memory, Vec::new(alloc));
+    copy.clear();
+    copy.extend_from_slice(values)?;
+    Ok(copy)
 }
 
 // Why a program isn't run by parts, if it isn't.
