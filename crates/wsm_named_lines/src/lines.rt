@@ -6,11 +6,10 @@ use wsm_key_names::KeyNames;
 use wsm_lines::{LineReader, LineRefusal, Source};
 use wsm_record::Event;
 
-/// Reads lines as events with their identifiers and clocks, each in place of the last, by any number of names. An event
-/// that was read has its key by its number among all of them, and a key that has no name is none.
+/// Reads lines as events with their identifiers and clocks, each in place of the last, by any number of names, which are
+/// handed in. An event that was read has its key by its number among all of them, and a key that has no name is none.
 #[derive(Drop)]
 pub struct NamedLines {
-    names: KeyNames,
     // There may be so many names.
     most: u32,
     reader: LineReader,
@@ -23,7 +22,7 @@ impl Model for NamedLines {
 
     ghost Value = { Reading };
 
-    ghost view = { λ a. record { names = a.names; most = a.most; reader = a.reader } };
+    ghost view = { λ a. record { most = a.most; reader = a.reader } };
 
     ghost invariant = { λ a. are_same a.reader.source.key.names ≡ true };
 }
@@ -41,16 +40,14 @@ impl NamedLines {
     ghost use Rattle.wsm_lines.specs.Said.{clock_of, identifier_of, said_of};
     ghost use Rattle.wsm_named_lines.specs.Names.{names_after_line};
 
-    /// A reader by a source and these names that has read no line. Names are learned as long as there are fewer than so
-    /// many: with 0 none is.
-    pub fn new(alloc: Global, source: Source, names: KeyNames, most: u32) -> NamedLines
+    /// A reader by a source that has read no line. Names are learned as long as there are fewer than so many: with 0 none
+    /// is.
+    pub fn new(alloc: Global, source: Source, most: u32) -> NamedLines
         requires { are_same source.key.names ≡ true }
         ensures reader { Follows source [] result.reader }
-        ensures names { result.names ≡ names }
         ensures most { result.most ≡ most }
     {
         NamedLines {
-            names,
             most,
             reader: LineReader::new(alloc, source),
         }
@@ -63,10 +60,10 @@ impl NamedLines {
     /// # Errors
     ///
     /// The first fault, which no name has a part in. After want of memory the names are those that there were.
-    pub fn read(&mut self, line: &[u8]) -> Result<(), LineRefusal>
+    pub fn read(&mut self, names: &mut KeyNames, line: &[u8]) -> Result<(), LineRefusal>
         ensures event { (s : AnySource) (d : Declared) (before : List (List ℕ)) → Follows s before self.old.reader →
-            OnOk result (said_of s (by_names self.new.names d) before line.now ≡ Ok (event_read self.new.reader)) }
-        ensures named { OnOk result (is_named self.new.names (event_read self.new.reader) ≡ true) }
+            OnOk result (said_of s (by_names names.new d) before line.now ≡ Ok (event_read self.new.reader)) }
+        ensures named { OnOk result (is_named names.new (event_read self.new.reader) ≡ true) }
         ensures identifier { (s : AnySource) (before : List (List ℕ)) → Follows s before self.old.reader →
             OnOk result (identifier_of s before line.now ≡ identifier_read self.new.reader) }
         ensures clock { (s : AnySource) (before : List (List ℕ)) → Follows s before self.old.reader →
@@ -74,36 +71,36 @@ impl NamedLines {
         ensures fault { (s : AnySource) (d : Declared) (before : List (List ℕ)) → Follows s before self.old.reader →
             IfErr result (λ r. IfFault r (λ f. said_of s d before line.now ≡ Err f)) }
         ensures names { (s : AnySource) (before : List (List ℕ)) → Follows s before self.old.reader → result ≢ Err LineRefusal.Memory →
-            self.new.names ≡ names_after_line self.old.most s self.old.names before line.now }
-        ensures unchanged { result ≡ Err LineRefusal.Memory → self.new.names ≡ self.old.names }
+            names.new ≡ names_after_line self.old.most s names.old before line.now }
+        ensures unchanged { result ≡ Err LineRefusal.Memory → names.new ≡ names.old }
         ensures follows { (s : AnySource) (before : List (List ℕ)) → Follows s before self.old.reader → result ≢ Err LineRefusal.Memory →
             Follows s (line.now ∷ before) self.new.reader }
         ensures most { self.new.most ≡ self.old.most }
     {
         self.reader.read_unnamed(line)?;
-        match self.names.number_of(self.reader.key()) {
+        match names.number_of(self.reader.key()) {
             Some(number) => {
                 self.reader.set_key(Some(number));
                 Ok(())
             }
-            None => self.learn(),
+            None => self.learn(names),
         }
     }
 
     // Learns the text of the key of the event that was read last, where it may be, and numbers it.
     #[cold]
     #[inline(never)]
-    fn learn(&mut self) -> Result<(), LineRefusal>
-        ensures event { OnOk result (event_read self.new.reader ≡ with_key (position (bytes_eq (key_read self.old.reader)) self.new.names) (event_read self.old.reader)) }
+    fn learn(&mut self, names: &mut KeyNames) -> Result<(), LineRefusal>
+        ensures event { OnOk result (event_read self.new.reader ≡ with_key (position (bytes_eq (key_read self.old.reader)) names.new) (event_read self.old.reader)) }
         ensures identifier { identifier_read self.new.reader ≡ identifier_read self.old.reader }
         ensures clock { clock_read self.new.reader ≡ clock_read self.old.reader }
         ensures follows { (s : AnySource) (before : List (List ℕ)) → Follows s before self.old.reader → Follows s before self.new.reader }
-        ensures names { OnOk result (self.new.names ≡ learned self.old.most self.old.names (key_read self.old.reader)) }
+        ensures names { OnOk result (names.new ≡ learned self.old.most names.old (key_read self.old.reader)) }
         ensures memory { IfErr result (λ r. r ≡ LineRefusal.Memory) }
-        ensures unchanged { OnErr result (self.new.names ≡ self.old.names) }
+        ensures unchanged { OnErr result (names.new ≡ names.old) }
         ensures most { self.new.most ≡ self.old.most }
     {
-        let number = self.names.number_or_next(self.reader.key(), self.most)?;
+        let number = names.number_or_next(self.reader.key(), self.most)?;
         self.reader.set_key(number);
         Ok(())
     }
@@ -112,7 +109,6 @@ impl NamedLines {
     /// name. What a reader that goes on behind other lines begins with.
     pub fn read_first(&mut self, line: &[u8]) -> Result<(), AllocError>
         ensures follows { (s : AnySource) → Follows s [] self.old.reader → OnOk result (Follows s (line.now ∷ []) self.new.reader) }
-        ensures names { self.new.names ≡ self.old.names }
         ensures most { self.new.most ≡ self.old.most }
     {
         match self.reader.read_unnamed(line) {
@@ -141,13 +137,6 @@ impl NamedLines {
         ensures { option_map (λ t. t.now) result ≡ clock_read self.now.reader }
     {
         self.reader.clock()
-    }
-
-    /// The names so far.
-    pub fn names(&self) -> &KeyNames
-        ensures { result.now ≡ self.now.names }
-    {
-        &self.names
     }
 
     /// Names are learned as long as there are fewer than so many.

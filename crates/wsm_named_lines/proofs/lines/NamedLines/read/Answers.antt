@@ -27,7 +27,7 @@ pub returns-in-Some-clause-event : goal.returns-in-Some-clause-event
 returns-in-Some-clause-event c = λ s d before follows.
     let inside = subst (λ r. Follows s before r.reader) (sym c.self.view_is) follows in
     let same : are_same s.key.names ≡ true = sym (ap (λ x. are_same x.key.names) inside.source) ∙ c.self.invariant in
-    let names = c.self.inside.names in
+    let names = c.args.names.now in
     let read = c.read_unnamed.new.self in
     let number : position (bytes_eq (key_read read)) names ≡ Some c.in-Some.number =
     sym (ap (λ t. position (bytes_eq t) names) c.key.ensures) ∙ sym c.number_of.ensures ∙ c.in-Some.is in
@@ -39,13 +39,13 @@ pub returns-in-Some-clause-names : goal.returns-in-Some-clause-names
 returns-in-Some-clause-names c = λ s before follows some.
     let inside = subst (λ r. Follows s before r.reader) (sym c.self.view_is) follows in
     let most = c.self.inside.most in
-    let names = c.self.inside.names in
+    let names = c.args.names.now in
     let read = c.read_unnamed.new.self in
     let number : position (bytes_eq (key_read read)) names ≡ Some c.in-Some.number =
     sym (ap (λ t. position (bytes_eq t) names) c.key.ensures) ∙ sym c.number_of.ensures ∙ c.in-Some.is in
     let teaches = event_teaches most s names before c.args.line.now (key_read read) (event_read read) (c.in_ok-read_unnamed.ensures.event s before inside) (c.in_ok-read_unnamed.ensures.key s before inside) in
     sym (teaches ∙ teaches_nothing most names (key_read read) c.in-Some.number number)
-    ∙ ap (λ r. names_after_line r.most s r.names before c.args.line.now) c.self.view_is
+    ∙ ap (λ r. names_after_line r.most s names before c.args.line.now) c.self.view_is
 
 pub returns-in-Some-clause-follows : goal.returns-in-Some-clause-follows
 returns-in-Some-clause-follows c = λ s before follows some.
@@ -57,7 +57,7 @@ returns-in-None-clause-event c = λ s d before follows.
     let inside = subst (λ r. Follows s before r.reader) (sym c.self.view_is) follows in
     let same : are_same s.key.names ≡ true = sym (ap (λ x. are_same x.key.names) inside.source) ∙ c.self.invariant in
     let read = c.read_unnamed.new.self in
-    let says = by_names_says s d c.learn.new.self.names before c.args.line.now (key_read read) (event_read read) same (c.in_ok-read_unnamed.ensures.event s before inside) (c.in_ok-read_unnamed.ensures.key s before inside) in
+    let says = by_names_says s d c.learn.new.names before c.args.line.now (key_read read) (event_read read) same (c.in_ok-read_unnamed.ensures.event s before inside) (c.in_ok-read_unnamed.ensures.key s before inside) in
     on_ok_weaker c.learn.result (λ event. says ∙ ap Ok (sym event)) c.learn.ensures.event
 
 pub returns-in-None-clause-follows : goal.returns-in-None-clause-follows
