@@ -1,8 +1,6 @@
 pub mod Coming
 pub mod Lines
-pub mod Declared
 pub mod Steps
 pub mod Ended
 pub mod Turn
 pub mod Words
-pub mod Numbers

@@ -11,7 +11,8 @@ use Rattle.wsm_part_programs.specs.Names.{of_names}
 use Rattle.wsm_key_names.specs.Reading.{by_names}
 use Rattle.wsm.specs.Written.{Cells, rows_of}
 use Rattle.wsm_keyed_run.specs.declared.turns.KeyedTurns.{KeyedTurns}
-use Rattle.wsm_keyed_run.specs.Keyed.{Keyed, input_text, keyed_lines, names_of, query_behind, turns_by, turns_text}
+use Rattle.wsm_keyed_told.specs.KeyedLines.{keyed_lines}
+use Rattle.wsm_keyed_run.specs.Keyed.{Keyed, input_text, names_of, query_behind, turns_by, turns_text}
 use Rattle.wsm_keyed_run.specs.Turns.{Ends, Fits, IsTextOf, Stands, Turned}
 use Rattle.wsm_keyed_run.proofs.Coming.{names_behind, rows_stay, row_stays}
 use Rattle.wsm_keyed_run.proofs.Lines.{text_by-is, turns_by-more, turns_by-none}

@@ -1,18 +1,10 @@
 -- What is written for rows by any number of names: the lines of one query over all names that ever come, each key by its cell.
-use Rattle.std.specs.Prelude.{◌≡◌, refl, ℕ, List, [], ◌∷◌, flat_map, pos, codes}
-use Rattle.std.specs.Fmt.{digits}
-use Rattle.wsm_record.specs.Schema.{Declared}
-use Rattle.wsm_record.specs.declared.cell.Cell.TheVariants.{Int}
-use Rattle.wsm_windows.specs.declared.window.PaneKind.TheVariants.{OnTime}
-use Rattle.wsm_windows.specs.Windows.{window}
-use Rattle.wsm_semantics.specs.declared.out_row.OutRow.TheVariants.{Pane}
-use Rattle.wsm_semantics.specs.Lines.{Line, Out, Faulty, Refused, End, all_lines, end_line, lines_so_far}
+use Rattle.std.specs.Prelude.{ℕ, List}
+use Rattle.wsm_semantics.specs.Lines.{Line, all_lines, end_line, lines_so_far}
 use Rattle.wsm_semantics.specs.Query.{Query}
-use Rattle.wsm_semantics.specs.Text.{line_text}
 use Rattle.wsm_program.specs.Program.{Program}
 use Rattle.wsm_part_programs.specs.Names.{of_names}
-use Rattle.wsm_csv.specs.KeyedLines.{key_text, keyed_text}
-use Rattle.wsm_key_names.specs.Cell.{cells_of, doubled}
+use Rattle.wsm_keyed_told.specs.KeyedLines.{keyed_lines}
 use Rattle.wsm_key_names.specs.Reading.{names_after_rows}
 use Rattle.wsm.specs.Written.{Cells, rows_of}
 
@@ -33,16 +25,6 @@ query_behind k cells = of_names k.program (names_of k cells)
 
 -- ---- bytes
 
--- the bytes of a line: the key of a row as the cell of its name
-abbrev pub keyed_line : Declared → List (List ℕ) → Line → List ℕ
-keyed_line d names (Out row) = keyed_text d (key_text (cells_of names) row) row
-keyed_line d names (Faulty row why) = line_text d (Faulty row why)
-keyed_line d names (Refused row why) = line_text d (Refused row why)
-keyed_line d names (End rows admitted late refused panes) = line_text d (End rows admitted late refused panes)
-
-abbrev pub keyed_lines : Declared → List (List ℕ) → List Line → List ℕ
-keyed_lines d names lines = flat_map (keyed_line d names) lines
-
 -- the bytes of the turns of these rows, by these names
 unfoldable pub turns_by : Program → List (List ℕ) → List Cells → List ℕ
 turns_by p names cells = let q = of_names p names in keyed_lines p.header.schema names (lines_so_far q (rows_of q cells))
@@ -61,14 +43,3 @@ input_text k cells = text_by k.program (names_of k cells) cells
 -- the last line
 abbrev pub last_line : Keyed → List Cells → Line
 last_line k cells = end_line (query_behind k cells) (rows_of (query_behind k cells) cells)
-
--- ---- a worked row
-
-abbrev bare : Declared
-bare = record { keys = []; fields = []; sources = [] }
-
--- a name with a comma stands in quotes
-a_line : keyed_lines bare (codes "a" ∷ codes "x,y" ∷ []) (Out (Pane OnTime 1 (window (pos 0) (pos 60)) (Int (pos 7) ∷ [])) ∷ End 2 1 0 0 1 ∷ [])
-    ≡ codes "pane,on_time,\"x,y\",0,60,7\nend,2,1,0,0,1\n"
-unfolding digits doubled
-a_line = refl

@@ -12,7 +12,8 @@ use Rattle.wsm_key_names.specs.Reading.{Reading}
 use Rattle.wsm_part_engines.specs.Fits as parts
 use Rattle.wsm.specs.Written.{Cells, line_of, rows_of}
 use Rattle.wsm_keyed_run.specs.declared.turns.KeyedTurns.{KeyedTurns}
-use Rattle.wsm_keyed_run.specs.Keyed.{Keyed, keyed_lines, last_line, names_of, query_behind, turns_by}
+use Rattle.wsm_keyed_told.specs.KeyedLines.{keyed_lines}
+use Rattle.wsm_keyed_run.specs.Keyed.{Keyed, last_line, names_of, query_behind, turns_by}
 
 -- ---- behind rows
 

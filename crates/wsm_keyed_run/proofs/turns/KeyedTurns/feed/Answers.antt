@@ -16,10 +16,11 @@ use Rattle.wsm_part_engines.specs.Fits as parts
 use Rattle.wsm_key_names.specs.Reading.{numbered}
 use Rattle.wsm.proofs.RowTurns.{one_more}
 use Rattle.wsm_keyed_run.specs.declared.turns.KeyedTurns.{KeyedTurns}
-use Rattle.wsm_keyed_run.specs.Keyed.{keyed_lines}
+use Rattle.wsm_keyed_told.specs.KeyedLines.{keyed_lines}
+use Rattle.wsm_keyed_told.proofs.KeyedLines.{keyed_both, keyed_refusal}
+use Rattle.wsm_keyed_told.proofs.More.{by_more}
 use Rattle.wsm_keyed_run.specs.Turns.{Counts}
-use Rattle.wsm_keyed_run.proofs.Lines.{keyed_both, keyed_refusal}
-use Rattle.wsm_keyed_run.proofs.Turn.{by_more, placed}
+use Rattle.wsm_keyed_run.proofs.Turn.{placed}
 use Rattle.wsm_keyed_run.proofs.turns.KeyedTurns.feed.Goals as goal
 
 pub feed-requires-clause-placed : goal.feed-requires-clause-placed

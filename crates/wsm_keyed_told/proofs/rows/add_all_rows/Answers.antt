@@ -5,9 +5,9 @@ use Rattle.std.proofs.lemmas.List.{map-append, take_all}
 use Rattle.wsm_semantics.specs.Lines.{Line, Out}
 use Rattle.wsm_semantics.specs.declared.out_row.OutRow.{OutRow}
 use Rattle.wsm_semantics.specs.declared.out_row.OutRow.TheVariants.{Rstream}
-use Rattle.wsm_keyed_run.specs.Keyed.{keyed_line, keyed_lines}
-use Rattle.wsm_keyed_run.proofs.Lines.{keyed_both}
-use Rattle.wsm_keyed_run.proofs.turns.add_all_rows.Goals as goal
+use Rattle.wsm_keyed_told.specs.KeyedLines.{keyed_line, keyed_lines}
+use Rattle.wsm_keyed_told.proofs.KeyedLines.{keyed_both}
+use Rattle.wsm_keyed_told.proofs.rows.add_all_rows.Goals as goal
 
 pub loop-i-preserved : goal.loop-i-preserved
 loop-i-preserved c =

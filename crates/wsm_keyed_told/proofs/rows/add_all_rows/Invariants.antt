@@ -1,7 +1,7 @@
 use Rattle.std.proofs.Common.{◌≡◌, ◌++◌, take, map}
 use Rattle.wsm_semantics.specs.Lines.{Out}
-use Rattle.wsm_keyed_run.specs.Keyed.{keyed_lines}
-use Rattle.wsm_keyed_run.proofs.turns.add_all_rows.Given as goal
+use Rattle.wsm_keyed_told.specs.KeyedLines.{keyed_lines}
+use Rattle.wsm_keyed_told.proofs.rows.add_all_rows.Given as goal
 
 -- the rows that were gone over were written
 abbrev pub invariant-loop-i : goal.invariant-loop-i

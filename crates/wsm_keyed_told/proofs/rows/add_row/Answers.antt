@@ -7,9 +7,9 @@ use Rattle.wsm_key_parts.specs.Merged.{place_of}
 use Rattle.wsm_part_engines.specs.Fits.{number_of}
 use Rattle.wsm_csv.specs.KeyedLines.{keyed_text}
 use Rattle.wsm_key_names.specs.Cell.{cells_of}
-use Rattle.wsm_keyed_run.specs.Keyed.{keyed_line}
-use Rattle.wsm_keyed_run.proofs.Lines.{line_by_number}
-use Rattle.wsm_keyed_run.proofs.turns.add_row.Goals as goal
+use Rattle.wsm_keyed_told.specs.KeyedLines.{keyed_line}
+use Rattle.wsm_keyed_told.proofs.KeyedLines.{line_by_number}
+use Rattle.wsm_keyed_told.proofs.rows.add_row.Goals as goal
 
 same_Some : (x y : OutRow) → Some x ≡ Some y → x ≡ y
 same_Some x y h = cc h

@@ -1,6 +1,6 @@
 use Rattle.std.proofs.Common.{◌≡◌, ◌++◌, List, ℕ, OnOk, subst}
-use Rattle.wsm.proofs.TurnLines.{told_text}
-use Rattle.wsm_keyed_run.proofs.turns.add_refusal.Goals as goal
+use Rattle.wsm_keyed_told.proofs.KeyedLines.{told_text}
+use Rattle.wsm_keyed_told.proofs.rows.add_refusal.Goals as goal
 
 pub returns-in_default : goal.returns-in_default
 returns-in_default c = λ declared.

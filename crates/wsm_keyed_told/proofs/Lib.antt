@@ -1,0 +1,4 @@
+pub mod KeyedLines
+pub mod Declared
+pub mod More
+mod Numbers

@@ -1,0 +1,2 @@
+pub mod KeyedLines
+pub mod Tells

@@ -1,0 +1,112 @@
+//! Engines by any number of names, and what they have told.
+
+ghost use Rattle.std.specs.Prelude.{◌≡◌, ℕ, List, length};
+ghost use Rattle.wsm_record.specs.Event.{event_of};
+ghost use Rattle.wsm_part_engines.specs.Fits.{is_named};
+
+use crate::rows::{add_refusal, add_rows};
+use std::alloc::{AllocError, Global};
+use wsm_admission::{Refusal, has_fitting_values};
+use wsm_key_names::KeyNames;
+use wsm_part_engines::Parts;
+use wsm_record::{Event, Schema};
+use wsm_turns::Taker;
+
+/// The engines of parts, the names of their keys, and the bytes of the lines that are written.
+#[derive(Drop)]
+pub struct KeyedTold {
+    pub parts: Parts,
+    pub names: KeyNames,
+    pub lines: Vec<u8>,
+}
+
+impl KeyedTold {
+    ghost use Rattle.std.specs.Prelude.{◌≡◌, ◌++◌, [], ℕ, List, IsTrue, OnOk};
+    ghost use Rattle.wsm_record.specs.declared.words.Form.TheVariants.{Panes};
+    ghost use Rattle.wsm_record.specs.Event.{Event as AnyEvent};
+    ghost use Rattle.wsm_record.specs.Schema.{Declared};
+    ghost use Rattle.wsm_semantics.specs.Query.{mark};
+    ghost use Rattle.wsm_semantics.specs.Lines.{refusal_lines};
+    ghost use Rattle.wsm_semantics.specs.Text.{lines_text};
+    ghost use Rattle.wsm_program.specs.Program.{Program, is_program};
+    ghost use Rattle.wsm_part_programs.specs.Names.{of_names};
+    ghost use Rattle.wsm_part_engines.specs.Fits.{Fits as PartsFit};
+    ghost use Rattle.wsm_keyed_told.specs.Tells.{Serves};
+
+    /// Before the first event, by these names.
+    pub fn of(alloc: Global, parts: Parts, names: KeyNames) -> KeyedTold
+        requires lawful { IsTrue (is_program parts.program) }
+        requires panes { parts.program.header.form ≡ Panes }
+        requires fits { (all : List (List ℕ)) → PartsFit parts.program all parts [] }
+        ensures serves { Serves parts.program result [] }
+        ensures names { result.names ≡ names }
+        ensures lines { result.lines.items ≡ [] }
+    {
+        KeyedTold {
+            parts,
+            names,
+            lines: Vec::new(alloc),
+        }
+    }
+
+    /// The watermark.
+    pub fn mark(&self) -> i64
+        ensures { (p : Program) (past : List AnyEvent) → Serves p self.now past → result ≡ mark (of_names p self.now.names) past }
+    {
+        self.parts.mark()
+    }
+
+    /// What the program declares of its records. Its keys are the places of a part.
+    pub fn schema(&self) -> &Schema
+        ensures { result.now ≡ self.now.parts.program.header.schema }
+    {
+        self.parts.schema()
+    }
+
+    // Adds the line of a refusal, if there is one.
+    fn tell(&mut self, number: u64, refusal: Option<Refusal>) -> Result<(), AllocError>
+        ensures lines { (declared : Declared) →
+            OnOk result (self.new.lines.items ≡ self.old.lines.items ++ lines_text declared (refusal_lines number refusal)) }
+        ensures others { self.new ≡ record self.old { lines = self.new.lines } }
+    {
+        match refusal {
+            Some(why) => add_refusal(number, why, &mut self.lines),
+            None => Ok(()),
+        }
+    }
+}
+
+impl Taker for KeyedTold {
+    ghost use Rattle.wsm_keyed_told.specs.Tells.{Took, Took-join, Took-none};
+
+    ghost took = { Took };
+
+    ghost none = { Took-none };
+
+    ghost join = { Took-join };
+
+    // Takes the turn of an event, and adds its bytes. An event whose key has a number past the names is of no line that was read.
+    fn take(&mut self, number: u64, event: &Event) -> Result<(), AllocError> {
+        if !is_named(event, self.names.len()) {
+            return Err(AllocError);
+        }
+        let values_fit = has_fitting_values(self.parts.schema(), event);
+        let refusal = self.parts.feed_numbered(event, values_fit)?;
+        self.tell(number, refusal)?;
+        add_rows(&self.parts, &self.names, &mut self.lines)
+    }
+}
+
+// Whether the key of an event, if it has one, is one of so many.
+fn is_named(event: &Event, names: usize) -> bool
+    ensures { (all : List (List ℕ)) → length all ≡ names → result ≡ is_named all (event_of event.now) }
+{
+    match event {
+        Event::Record {
+            key: Some(number),
+            ..
+        } => (*number as usize) < names,
+        Event::Record { key: None, .. } => true,
+        Event::Watermark { .. } => true,
+    }
+}
