@@ -3,6 +3,7 @@
 
 pub use intake::Intake;
 pub use run::run_log;
+pub use told::add_fault;
 pub use totals::{LogCounts, LogTotals};
 pub use wsm_log_rows::LogEnd;
 pub use wsm_turns::Listener;

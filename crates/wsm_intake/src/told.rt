@@ -186,7 +186,11 @@ fn add_refusal(number: u64, why: Refusal, lines: &mut Vec<u8>) -> Result<(), All
 }
 
 /// Adds the line of a line that is no event.
-pub(crate) fn add_fault(number: u64, why: LineFault, lines: &mut Vec<u8>) -> Result<(), AllocError>
+///
+/// # Errors
+///
+/// Memory was refused.
+pub fn add_fault(number: u64, why: LineFault, lines: &mut Vec<u8>) -> Result<(), AllocError>
     ensures { OnOk result (lines.new.items ≡ lines.old.items ++ fault_text number why) }
 {
     let mut digits = Buffer::new();

@@ -1,0 +1,4 @@
+pub mod Names
+pub mod Stamps
+pub mod Telling
+pub mod Texts

@@ -1,0 +1,36 @@
+use Rattle.std.proofs.Common.{◌∙◌, ◌++◌, ℕ, List, [], Option, length, refl, ap, sym, subst}
+use Rattle.wsm_turns.specs.Clocks.{count_in}
+use Rattle.wsm_turns.specs.Named.{Knows}
+use Rattle.wsm_turns.specs.Turns.{start_of}
+use Rattle.wsm_turns.specs.Waits.{Hear}
+use Rattle.wsm_keyed_intake.specs.KeyedLog.{KeyedLog, names_of}
+use Rattle.wsm_keyed_intake.specs.Turns.{Grows}
+use Rattle.wsm_keyed_intake.proofs.Names.{lines_grow}
+use Rattle.wsm_keyed_intake.proofs.Stamps.{count_same}
+use Rattle.wsm_keyed_intake.proofs.intake.KeyedIntake.open.Goals as goal
+
+pub returns : goal.returns
+returns c =
+    let clocks = c.args.clocks in
+    let g : KeyedLog = record { program = c.args.parts.program; source = c.args.source; clocks = clocks; names = c.args.names; most = c.args.most } in
+    let told = c.of.ensures.serves in
+    record {
+      reads = record { reader = c.new.ensures.reader; most = c.new.ensures.most; known = c.of.ensures.names };
+      by = λ later.
+          let all = names_of g (later ++ []) in
+          record {
+            holds = record {
+              told = record { lawful = told.lawful; panes = told.panes; parts = told.parts };
+              grows = subst (λ (ns : List (List ℕ)). Grows ns all) (sym c.of.ensures.names) (lines_grow g later []);
+              waiting = count_same clocks (length c.args.parts.program.header.schema.keys) (length all) c.in_ok-waiting.waiting [] (start_of clocks) [] c.requires.named
+                  (subst (λ (n : ℕ). Hear clocks n c.in_ok-waiting.waiting [] (start_of clocks) [])
+                  (c.count_in-count.ensures.count ∙ ap (count_in clocks) c.block.ensures.block) c.in_ok-waiting.ensures);
+              remembers = c.identifiers_of-identifiers.ensures.none clocks all _;
+            };
+            voices = subst (λ (n : Option ℕ). Knows n c.in_ok-voices.voices []) c.named_in.ensures c.in_ok-voices.ensures;
+            taken = refl;
+            faults = refl;
+            doubles = refl;
+            silent = refl;
+          };
+    }

@@ -1,0 +1,4 @@
+pub mod KeyedLog
+pub mod Turns
+pub mod Run
+pub mod Stops

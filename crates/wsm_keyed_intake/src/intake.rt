@@ -1,0 +1,352 @@
+//! What the lines of a log so far come to, by any number of names.
+
+ghost use Rattle.std.specs.Prelude.{◌≡◌, ◌<◌, ◌^◌, [], ℤ, ℕ, List, Option, IfOk, IsTrue, option_map, length};
+ghost use Rattle.wsm_record.specs.Event.{event_of};
+ghost use Rattle.wsm_record.specs.Schema.{Declared};
+ghost use Rattle.wsm_program.specs.Program.{Program, is_program};
+ghost use Rattle.wsm_turns.specs.declared.clocks.Clocks.{Clocks as AnyClocks};
+ghost use Rattle.wsm_turns.specs.Known.{Passes, Remembers};
+ghost use Rattle.wsm_turns.specs.Turns.{Kept, stamp_of, watermark};
+ghost use Rattle.wsm_keyed_told.specs.Tells.{Serves};
+ghost use Rattle.wsm_keyed_intake.specs.KeyedLog.{setting_by};
+
+use std::alloc::{AllocError, Global};
+use wsm_admission::has_fitting_values;
+use wsm_csv::{Device, DeviceFault, end_text, write_out};
+use wsm_engine::Totals;
+use wsm_intake::{LogCounts, LogTotals, add_fault};
+use wsm_key_names::KeyNames;
+use wsm_keyed_told::KeyedTold;
+use wsm_lines::{LineFault, LineRefusal, Source};
+use wsm_named_lines::NamedLines;
+use wsm_part_engines::Parts;
+use wsm_record::{Event, Schema};
+use wsm_turns::{
+    ClockNames, Clocks, Identifiers, Listener, Stamp, Taker, Voice, Waiting, clocks_heard,
+    count_in, named_in, open_clocks, open_names, silent_in, stamp_by, take_record, take_rest,
+    tell_heard, voice_of,
+};
+use wsm_windows::is_time;
+
+/// Engines of parts and what stands between them and a log: the reader of lines by names, the clocks with their names and the records
+/// that wait, and the identifiers of records that came. It has the bytes that are written for the last line.
+pub struct KeyedIntake {
+    told: KeyedTold,
+    reader: NamedLines,
+    waiting: Option<Waiting>,
+    // The names of clocks, where lines name them.
+    voices: Option<ClockNames>,
+    identifiers: Identifiers,
+    // The lines so far.
+    taken: u64,
+    // Those that were no event.
+    faults: u64,
+    // The records that were left out.
+    doubles: u64,
+    // Those that had no voice.
+    silent: u64,
+}
+
+impl Drop for KeyedIntake {
+    fn drop(self) {
+        let KeyedIntake {
+            told: _,
+            reader: _,
+            waiting: _,
+            voices: _,
+            identifiers: _,
+            taken: _,
+            faults: _,
+            doubles: _,
+            silent: _,
+        } = self;
+    }
+}
+
+impl KeyedIntake {
+    ghost use Rattle.std.specs.Prelude.{◌≡◌, ◌++◌, ◌+◌, ◌<◌, ◌^◌, [], true, false, List, ℕ, Option, Some, Ok, IfOk, IfSome, OnErr, OnOk, length};
+    ghost use Rattle.std.specs.Io.KnownBytes.{Appends};
+    ghost use Rattle.wsm_record.specs.Event.{Event as AnyEvent};
+    ghost use Rattle.wsm_admission.specs.Admission.{counter};
+    ghost use Rattle.wsm_csv.specs.Device.{TakesPart};
+    ghost use Rattle.wsm_program.specs.Program.{Program};
+    ghost use Rattle.wsm_lines.specs.Key.{are_same};
+    ghost use Rattle.wsm_lines.specs.Reader.{clock_read, event_read};
+    ghost use Rattle.wsm_turns.specs.declared.clocks.Clocks.{Clocks as AnyClocks};
+    ghost use Rattle.wsm_turns.specs.Clocks.{AreClocks, count_in, named_in};
+    ghost use Rattle.wsm_turns.specs.Named.{Knows};
+    ghost use Rattle.wsm_turns.specs.Voices.{stamp_by, voiced};
+    ghost use Rattle.wsm_turns.specs.Heard.{left_by};
+    ghost use Rattle.wsm_turns.specs.Turns.{Kept, turn_by};
+    ghost use Rattle.wsm_part_programs.specs.Names.{of_names};
+    ghost use Rattle.wsm_key_names.specs.Reading.{by_names, is_named};
+    ghost use Rattle.wsm_keyed_told.specs.Tells.{Serves};
+    ghost use Rattle.wsm_intake.specs.Counts.{counts_of};
+    ghost use Rattle.wsm_intake.specs.Intake.{Said, fault_count, fault_text, left_at, line_behind, turn_at, voiced_in};
+    ghost use Rattle.wsm_intake.specs.Turns.{line_of};
+    ghost use Rattle.wsm_keyed_intake.specs.KeyedLog.{KeyedLog, names_of, query_behind, said_by, setting_by};
+    ghost use Rattle.wsm_keyed_intake.specs.Turns.{AreNamed, Ends, Fits, Goes, Holds, IsOpened, Speaks, Turned, spoken_read};
+
+    /// Before the first line, by these names, of which there may be so many, with these clocks, where there are any.
+    ///
+    /// # Errors
+    ///
+    /// Memory was refused.
+    pub fn open(
+        alloc: Global,
+        parts: Parts,
+        source: Source,
+        clocks: Option<Clocks>,
+        names: KeyNames,
+        most: u32,
+    ) -> Result<KeyedIntake, AllocError>
+        requires opened { IsOpened parts }
+        requires texts { are_same source.key.names ≡ true }
+        requires clocks { AreClocks clocks }
+        requires named { AreNamed clocks }
+        ensures { IfOk result (λ intake. Fits (record { program = parts.program; source = source; clocks = clocks; names = names; most = most }) intake []) }
+    {
+        let count = count_in(clocks, parts.block());
+        let identifiers = identifiers_of(alloc, &parts);
+        let waiting = open_clocks(alloc, clocks, count)?;
+        let voices = open_names(alloc, named_in(clocks))?;
+        Ok(KeyedIntake {
+            told: KeyedTold::of(alloc, parts, names),
+            reader: NamedLines::new(alloc, source, most),
+            waiting,
+            voices,
+            identifiers,
+            taken: 0,
+            faults: 0,
+            doubles: 0,
+            silent: 0,
+        })
+    }
+
+    /// Takes the turn of a line. The bytes are then those that are written for it.
+    ///
+    /// # Errors
+    ///
+    /// Memory was refused.
+    pub fn take(&mut self, line: &[u8]) -> Result<(), AllocError>
+        ensures { (g : KeyedLog) (before : List (List ℕ)) → Fits g self.old before → OnOk result (Turned g self.new before line.now) }
+    {
+        let Some(taken) = self.taken.checked_add(1) else {
+            return Err(AllocError);
+        };
+        self.told.lines.clear();
+        match self.reader.read(&mut self.told.names, line) {
+            Ok(()) => {
+                self.taken = taken;
+                self.serve()
+            }
+            Err(LineRefusal::Fault(why)) => {
+                self.taken = taken;
+                self.refuse(why)
+            }
+            Err(LineRefusal::Memory) => Err(AllocError),
+        }
+    }
+
+    // The turn of the event that was read, whose key has a name.
+    fn serve(&mut self) -> Result<(), AllocError>
+        requires { is_named self.old.told.names (event_read self.old.reader.reader) ≡ true }
+        ensures { (clocks : Option AnyClocks) (p : Program) (all : List (List ℕ)) (k : Kept) (voices : List (List ℕ)) → Holds clocks p all self.old k →
+            Knows (named_in clocks) self.old.voices voices → length k.stamps < self.old.taken →
+            let v = voiced_in clocks (by_names all p.header.schema) voices (clock_read self.old.reader.reader) (Ok (event_read self.old.reader.reader)) in
+            let x = spoken_read self.old.reader v.voice in
+            OnOk result (Speaks clocks p all self.old self.new k v (turn_at (setting_by clocks p all) k self.old.taken (Ok x)) (left_at (setting_by clocks p all) k (Ok x))) }
+    {
+        let names = self.told.names.len();
+        match stamp_among(names, self.told.schema(), self.reader.event()) {
+            Some(stamp) => self.serve_stamped(stamp),
+            None => self.told.take(self.taken, self.reader.event()),
+        }
+    }
+
+    // The turn of the event that was read, with its stamp by its key.
+    fn serve_stamped(&mut self, stamp: Stamp) -> Result<(), AllocError>
+        requires { stamp.time < 2 ^ 63 }
+        ensures { (clocks : Option AnyClocks) (p : Program) (all : List (List ℕ)) (k : Kept) (voices : List (List ℕ)) → Holds clocks p all self.old k →
+            Knows (named_in clocks) self.old.voices voices → length k.stamps < self.old.taken → stamp.clock < length all →
+            let v = voiced (named_in clocks) voices (clock_read self.old.reader.reader) in
+            let x = spoken_read self.old.reader v.voice in
+            OnOk result (Speaks clocks p all self.old self.new k v (turn_by (setting_by clocks p all) k self.old.taken (Some stamp) x) (left_by (Some stamp) x.identifier k.memory)) }
+    {
+        let voice = voice_of(&mut self.voices, self.reader.clock())?;
+        self.silent = self.silent.saturating_add(silent_in(voice));
+        self.serve_voiced(stamp, voice)
+    }
+
+    // The same by its voice. A double is left out; a record without a voice goes on at once.
+    fn serve_voiced(&mut self, stamp: Stamp, voice: Voice) -> Result<(), AllocError>
+        requires { stamp.time < 2 ^ 63 }
+        ensures { (clocks : Option AnyClocks) (p : Program) (all : List (List ℕ)) (k : Kept) → Holds clocks p all self.old k → length k.stamps < self.old.taken →
+            IfSome (stamp_by voice stamp) (λ s. s.clock < count_in clocks (length all)) →
+            let x = spoken_read self.old.reader voice in
+            OnOk result (Goes clocks p all self.old self.new k (turn_by (setting_by clocks p all) k self.old.taken (Some stamp) x) (left_by (Some stamp) x.identifier k.memory)) }
+    {
+        let is_new = passes(
+            self.reader.identifier(),
+            stamp.time,
+            &self.told,
+            &mut self.identifiers,
+        )?;
+        if !is_new {
+            self.doubles = self.doubles.saturating_add(1);
+            return Ok(());
+        }
+        match stamp_by(voice, stamp) {
+            Some(stamp) => take_record(
+                &mut self.waiting,
+                stamp,
+                self.taken,
+                self.reader.event(),
+                &mut self.told,
+            ),
+            None => self.told.take(self.taken, self.reader.event()),
+        }
+    }
+
+    // The turn of a line that is no event.
+    fn refuse(&mut self, why: LineFault) -> Result<(), AllocError>
+        ensures text { OnOk result (self.new.told.lines.items ≡ self.old.told.lines.items ++ fault_text self.old.taken why) }
+        ensures faults { (n : ℕ) → self.old.faults ≡ counter n → self.new.faults ≡ counter (n + 1) }
+        ensures others { self.new ≡ record self.old { told = record self.old.told { lines = self.new.told.lines }; faults = self.new.faults } }
+    {
+        self.faults = self.faults.saturating_add(1);
+        add_fault(self.taken, why, &mut self.told.lines)
+    }
+
+    /// Ends the turns: what waits is told. The bytes are then those behind all turns, with the last line, whose numbers are
+    /// answered, and what is counted beside them.
+    ///
+    /// # Errors
+    ///
+    /// Memory was refused.
+    pub fn end(&mut self) -> Result<LogTotals, AllocError>
+        ensures { (g : KeyedLog) (lines : List (List ℕ)) → Fits g self.old lines → IfOk result (Ends g self.new lines) }
+    {
+        let counts = self.counts();
+        self.told.lines.clear();
+        take_rest(&self.waiting, &mut self.told)?;
+        let totals = self.totals();
+        end_text(totals, &mut self.told.lines)?;
+        Ok(LogTotals { totals, counts })
+    }
+
+    /// What is counted of the lines so far.
+    pub fn counts(&self) -> LogCounts
+        ensures { (g : KeyedLog) (lines : List (List ℕ)) → Fits g self.now lines →
+            result ≡ counts_of (query_behind g lines) g.clocks (said_by g (names_of g lines) lines) }
+    {
+        LogCounts {
+            doubles: self.doubles,
+            silent: self.silent,
+            heard: clocks_heard(&self.waiting),
+        }
+    }
+
+    /// Tells a listener what the clocks have come to, where there are any and it is told after as many lines.
+    pub fn tell<L: Listener>(&self, listener: &mut L) {
+        tell_heard(&self.waiting, self.taken, listener);
+    }
+
+    /// The bytes that are written for the last line.
+    pub fn lines(&self) -> &[u8]
+        ensures { result.now ≡ self.now.told.lines.items }
+    {
+        &self.told.lines
+    }
+
+    /// Gives a device the bytes. Where it can't, it took a beginning of them and has failed.
+    pub fn write<D: Device>(&self, out: &mut D) -> Result<(), DeviceFault>
+        requires { D.has_failed out.old ≡ false }
+        ensures all { OnOk result (Appends (D.taken out.old) (D.taken out.new) self.now.told.lines.items) }
+        ensures works { OnOk result (D.has_failed out.new ≡ false) }
+        ensures part { OnErr result (TakesPart (D.taken out.old) (D.taken out.new) self.now.told.lines.items) }
+        ensures fails { OnErr result (D.has_failed out.new ≡ true) }
+    {
+        write_out(out, &self.told.lines)
+    }
+
+    /// What all turns come to.
+    pub fn totals(&self) -> Totals
+        ensures { (p : Program) (past : List AnyEvent) (lines : List Said) → Serves p self.now.told past → self.now.taken ≡ length lines →
+            self.now.faults ≡ counter (fault_count lines) →
+            line_of result ≡ line_behind (of_names p self.now.told.names) lines past }
+    {
+        let totals = self.told.parts.totals();
+        Totals {
+            rows: self.taken,
+            admitted: totals.admitted,
+            late: totals.late,
+            refused: self.faults.saturating_add(totals.refused),
+            panes: totals.panes,
+        }
+    }
+
+    /// How many names there are.
+    pub fn name_count(&self) -> usize
+        ensures { result ≡ length self.now.told.names }
+    {
+        self.told.names.len()
+    }
+
+    /// How many parts have an engine.
+    pub fn part_count(&self) -> usize {
+        self.told.parts.opened()
+    }
+}
+
+// What an event says of time, where its key is one of so many and its values fit what a schema declares: on the clock of its key.
+fn stamp_among(keys: usize, schema: &Schema, event: &Event) -> Option<Stamp>
+    ensures { (d : Declared) → length d.keys ≡ keys → d.fields ≡ schema.now.fields → result ≡ stamp_of d (event_of event.now) }
+{
+    match event {
+        Event::Record {
+            key: Some(key),
+            time,
+            ..
+        } => {
+            let clock = *key as usize;
+            if clock < keys && (has_fitting_values(schema, event) && is_time(*time)) {
+                Some(Stamp {
+                    clock,
+                    time: time.unsigned_abs(),
+                })
+            } else {
+                None
+            }
+        }
+        Event::Record { key: None, .. } => None,
+        Event::Watermark { .. } => None,
+    }
+}
+
+// No identifier of the records of a program that parts run has come.
+fn identifiers_of(alloc: Global, parts: &Parts) -> Identifiers
+    ensures none { (clocks : Option AnyClocks) (all : List (List ℕ)) (mark : ℤ) → Remembers (setting_by clocks parts.now.program all) mark result [] }
+    ensures lawful { IsTrue (is_program parts.now.program) }
+{
+    let header = parts.header();
+    Identifiers::new(alloc, header.clock, header.shape)
+}
+
+// Whether a record with an identifier, if it has one, passes. Takes note of it then.
+fn passes(
+    identifier: Option<&[u8]>,
+    time: u64,
+    told: &KeyedTold,
+    identifiers: &mut Identifiers,
+) -> Result<bool, AllocError>
+    requires { time < 2 ^ 63 }
+    ensures { (clocks : Option AnyClocks) (p : Program) (all : List (List ℕ)) (k : Kept) → Serves p told.now k.fed →
+        let w = setting_by clocks p all in Remembers w (watermark w k.fed) identifiers.old k.memory →
+        IfOk result (Passes w (watermark w k.fed) identifiers.new (option_map (λ t. t.now) identifier.entry) time k.memory) }
+{
+    match identifier {
+        Some(identifier) => identifiers.pass(identifier, time, told.mark()),
+        None => Ok(true),
+    }
+}
