@@ -20,7 +20,7 @@ are_sessions (Fixed size) = false
 are_sessions (Sliding size period) = false
 are_sessions (Session gap) = true
 
--- panes of sessions are written
+-- panes of sessions are written, in whatever mode
 pub record WritesSessions (q : Query) : Type 0 where
   pub shape : are_sessions q.shape ≡ true
   pub form : q.form ≡ Panes

@@ -30,8 +30,8 @@ pub fn needed_stay()
     ensures { (q : Query) (text : Event → List ℕ) (past : List Event) → staying read q (rows_with text past) ≡ rows_with text (needed q past) }
 {}
 
-/// Of sessions a run over the needed events of a history writes and withdraws as many panes as one over the history did of
-/// those that begin beyond the times up to which records go.
+/// Of sessions a run over the needed events of a history writes as many rows, of panes and of what is withdrawn, as one over
+/// the history wrote for those that begin beyond the times up to which records go.
 pub fn writes_beyond()
     ensures { (plan : Plan (List Value)) → IsLawful plan → (q : Query) → Runs plan q → IsShape q.shape → SessionsByEvent q → pos 0 ≤ℤ q.clock.lateness →
         WritesSessions q → (past : List Event) → WritesBeyond q past }

@@ -43,8 +43,8 @@ pub fn own_counts(
     counts_over(alloc, verified, text)
 }
 
-/// Whether a program writes panes of sessions: then rows that stay write and withdraw as many as were written and withdrawn for
-/// the sessions in which they stand.
+/// Whether a program writes panes of sessions: then rows that stay write as many rows as were written for the sessions in
+/// which they stand, also of what is withdrawn.
 pub fn writes_sessions(verified: &Verified) -> bool
     ensures { result ≡ spec.writes_sessions verified.now.header }
 {
