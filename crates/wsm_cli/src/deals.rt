@@ -1,5 +1,8 @@
 //! What dealing does with files and standard input.
 
+ghost use Rattle.std.specs.Prelude.{ℕ, List, OnOk};
+ghost use Rattle.wsm_csv.specs.Records.{AreAll};
+
 use crate::files::{end_of, read, write_all};
 use crate::stop::{Stop, WordsFault};
 use std::alloc::{AllocError, Global};
@@ -105,13 +108,15 @@ fn is_same(place: Option<(u64, u64)>, other: Option<(u64, u64)>) -> bool {
     place.is_some() && place == other
 }
 
-// Makes the files of the parts, and hands the reader of the rows on.
+// Makes the files of the parts, and hands the reader of the rows on. Where it ends well all its rows were dealt.
 fn deal_to_files<R: Files + AllocGlobal, I: Read + Drop>(
     rt: &R,
     shares: &Shares,
     out: &String,
     rows: I,
-) -> Result<bool, End> {
+) -> Result<bool, End>
+    ensures { OnOk result ((cells : List (List (List ℕ))) × AreAll (I.remaining rows) cells) }
+{
     let mut parts = Vec::new(rt.alloc());
     for number in 0..shares.parts() {
         let name = part_name(rt.alloc(), out, number)?;

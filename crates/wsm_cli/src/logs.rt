@@ -1,5 +1,7 @@
 //! What the jobs of the program do with the lines of logs.
 
+ghost use Rattle.std.specs.Prelude.{ℕ, List, Option, OnOk};
+ghost use Rattle.wsm_log_rows.specs.Rows.{RowsWritten};
 ghost use Rattle.wsm_turns.specs.Clocks.{AreClocks};
 
 use crate::counting::Counting;
@@ -37,7 +39,13 @@ impl Drop for Ready {
 }
 
 impl Ready {
-    // Runs the program over a log. What is written is counted, where that is asked for.
+    ghost use Rattle.std.specs.Prelude.{ℕ, List, Option, IfOk};
+    ghost use Rattle.wsm_inputs.specs.declared.input.Input.{Input as Judged};
+    ghost use Rattle.wsm_inputs.specs.Inputs.{IsAccepted, Means};
+    ghost use Rattle.wsm_intake.specs.Run.{LogWritten};
+
+    // Hands the reader of a log on, over which the program is run. What is written is counted, where that is asked for. Where it ends
+    // well, the numbers that are told are those of all lines that the reader has.
     fn run<R: AllocGlobal + Print + Eprint, I: Read + Drop>(
         self,
         rt: &R,
@@ -45,6 +53,9 @@ impl Ready {
         is_counted: bool,
     ) -> Result<Ran, End>
         requires { AreClocks self.bound.clocks }
+        ensures { (input : Judged) (m : _) → IsAccepted input self.verified → Means input m →
+            IfOk result (λ ran. (old : Option (List ℕ)) × (new : Option (List ℕ)) ×
+            LogWritten (I.remaining log) self.bound.source self.bound.clocks old new m ran.totals) }
     {
         let Ready { verified, bound } = self;
         let writer = Counting::new(rt.alloc(), io::writer(rt), is_counted);
@@ -115,12 +126,16 @@ fn rows_by<R: Files + AllocGlobal + Input + Print + Eprint + Clock>(
     }
 }
 
+// Hands the reader of the log on. Where it ends well the rows of all lines that the reader has were written.
 fn rows_over<R: AllocGlobal + Print, I: Read + Drop>(
     rt: &R,
     verified: &Verified,
     source: Source,
     log: I,
-) -> Result<bool, End> {
+) -> Result<bool, End>
+    ensures { OnOk result ((old : Option (List ℕ)) × (new : Option (List ℕ)) × (lines : List (List ℕ))
+        × RowsWritten (I.remaining log) source verified.now.header.schema old new lines) }
+{
     let schema = &verified.program().header().schema;
     let mut output = Guarded::new(io::writer(rt));
     match write_rows(rt.alloc(), schema, source, log, &mut output) {

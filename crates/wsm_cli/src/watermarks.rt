@@ -1,6 +1,7 @@
 //! Rows with watermarks among them: files, standard input and standard output.
 
-ghost use Rattle.std.specs.Prelude.{IfOk};
+ghost use Rattle.std.specs.Prelude.{ℕ, List, Option, IfOk};
+ghost use Rattle.wsm_row_watermarks.specs.Run.{IsWritten, setting_by};
 ghost use Rattle.wsm_turns.specs.Clocks.{AreClocks};
 
 use crate::counts::Teller;
@@ -42,12 +43,15 @@ pub fn follow<R: Files<File = File> + AllocGlobal + Input + Print + Eprint>(
     Ok(true)
 }
 
+// Hands the reader of the rows on. Where it ends well what all its lines come to was written.
 fn written<R: AllocGlobal + Print + Eprint, I: Read + Drop>(
     rt: &R,
     rules: Rules,
     rows: I,
 ) -> Result<Totals, End>
     requires { AreClocks rules.clocks }
+    ensures { IfOk result (λ totals. (old : Option (List ℕ)) × (new : Option (List ℕ)) ×
+        IsWritten (I.remaining rows) (setting_by rules) rules.once rules.last old new totals) }
 {
     let mut output = Guarded::new(io::writer(rt));
     let mut teller = Teller::new(rt);
