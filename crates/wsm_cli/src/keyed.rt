@@ -5,33 +5,39 @@ ghost use Rattle.wsm_keyed_run.specs.Written.{KeyedOver};
 
 use crate::counting::Counting;
 use crate::files::{end_of, read};
+use crate::keyed_logs::run_log;
 use crate::metrics::{Ran, write_run};
 use crate::numbers::number_in;
 use crate::stop::{Stop, WordsFault};
 use std::fs::File;
 use std::io::{self, Eprint, Read};
 use std::rt::Files;
+use std::time::Clock;
 use wsm::{End, Guarded, SharesRefusal};
 use wsm_key_names::{KeyNames, KeyNamesRefusal};
-use wsm_keyed_run::{KeyedTotals, run_keyed_over};
+use wsm_keyed_run::run_keyed_over;
 use wsm_words::RunJob;
 
-/// Runs a query without a KEYS clause over rows, by the names of a file, tells how many names were new, and writes what was counted
-/// where that is asked for.
-pub fn run_named<R: Files<File = File> + AllocGlobal + Input + Print + Eprint>(
+/// Runs a query without a KEYS clause over rows, or over a log by a source, by the names of a file, tells how many names were new, and
+/// writes what was counted where that is asked for.
+pub fn run_named<R: Files<File = File> + AllocGlobal + Input + Print + Eprint + Clock>(
     rt: &R,
     job: &RunJob,
     names: &String,
+    is_looked_at: bool,
 ) -> Result<bool, Stop> {
-    if job.program || job.from.is_some() {
+    if job.program {
         return Err(Stop::Words(WordsFault::NotNamed));
     }
     let most = most_of(job)?;
     let query = read(rt, &job.query)?;
     let names = names_of(rt, names, most)?;
     let of_file = names.len();
-    let (run, ran) = run_rows(rt, job, &query, names, most)?;
-    tell_new(rt, run.names.saturating_sub(of_file));
+    let (count, ran) = match &job.from {
+        None => run_rows(rt, job, &query, names, most)?,
+        Some(source) => run_log(rt, job, source, &query, names, most, is_looked_at)?,
+    };
+    tell_new(rt, count.saturating_sub(of_file));
     write_run(rt, job.metrics.as_ref(), &ran)?;
     Ok(true)
 }
@@ -70,14 +76,14 @@ fn refusal_of(refusal: KeyNamesRefusal) -> SharesRefusal {
     }
 }
 
-// Runs the query over a file of rows, or over standard input.
+// Runs the query over a file of rows, or over standard input. Answers how many names there are then.
 fn run_rows<R: Files + AllocGlobal + Input + Print>(
     rt: &R,
     job: &RunJob,
     query: &[u8],
     names: KeyNames,
     most: u32,
-) -> Result<(KeyedTotals, Ran), Stop> {
+) -> Result<(usize, Ran), Stop> {
     match &job.rows {
         None => write_run_over(rt, job, query, names, most, rt.reader()),
         Some(rows) => match File::open(rt, rows.as_str()) {
@@ -96,7 +102,7 @@ fn write_run_over<R: AllocGlobal + Print, I: Read + Drop>(
     names: KeyNames,
     most: u32,
     rows: I,
-) -> Result<(KeyedTotals, Ran), Stop>
+) -> Result<(usize, Ran), Stop>
     ensures { IfOk result (λ both. (old : Option (List ℕ)) × (new : Option (List ℕ)) × KeyedOver query.now names most (I.remaining rows) old new both.1.totals) }
 {
     let alloc = rt.alloc();
@@ -108,7 +114,7 @@ fn write_run_over<R: AllocGlobal + Print, I: Read + Drop>(
         counts: None,
         lines: output.into_writer().into_lines()?,
     };
-    Ok((run, ran))
+    Ok((run.names, ran))
 }
 
 // Tells how many names came that the file hasn't.

@@ -144,8 +144,8 @@ fn rows_over<R: AllocGlobal + Print, I: Read + Drop>(
     }
 }
 
-// The file of a log, of which it is told how much was read.
-fn opened<'r, R: Files + Clock>(
+/// The file of a log, of which it is told how much was read.
+pub fn opened<'r, R: Files + Clock>(
     rt: &'r R,
     log: &String,
     is_looked_at: bool,

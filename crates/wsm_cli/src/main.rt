@@ -13,6 +13,7 @@ mod jobs;
 mod judging;
 mod keeps;
 mod keyed;
+mod keyed_logs;
 mod lives;
 mod logs;
 mod metrics;

@@ -23,7 +23,7 @@ pub fn run<R: Files<File = File> + AllocGlobal + Input + Print + Eprint + Clock>
     is_looked_at: bool,
 ) -> Result<bool, Stop> {
     match &job.keys.file {
-        Some(names) => run_named(rt, job, names),
+        Some(names) => run_named(rt, job, names, is_looked_at),
         None if job.keys.takes_new || job.keys.most.is_some() => {
             Err(Stop::Words(WordsFault::NoNames))
         }

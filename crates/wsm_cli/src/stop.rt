@@ -5,8 +5,10 @@ use std::fmt;
 use wsm::{End, InputRefusal, Position, status_of};
 use wsm_fed::FedFault;
 use wsm_kept::KeepEnd;
+use wsm_keyed_intake::KeyedLogStop;
 use wsm_keyed_run::KeyedStop;
 use wsm_live_loop::LiveStop;
+use wsm_log_run::end_of_log;
 use wsm_replace::ReplaceFault;
 use wsm_source::SourceRefusal;
 
@@ -36,6 +38,8 @@ pub enum Stop {
     Rows(RowsFault),
     /// A query isn't run over any number of keys; nothing was written.
     Keyed(KeyedStop),
+    /// A log isn't run over by any number of keys; nothing was written.
+    KeyedLog(KeyedLogStop),
     /// Its live run ends.
     Live(LiveStop),
     /// As a job without a source ends.
@@ -52,6 +56,7 @@ impl Stop {
             Stop::Rows(RowsFault::Held) => HELD_ROWS,
             Stop::Rows(_) => UNFIT_ROWS,
             Stop::Keyed(_) => REFUSED_QUERY,
+            Stop::KeyedLog(_) => REFUSED_SOURCE,
             Stop::Live(stop) => status_of_live(stop),
             Stop::End(end) => status_of(*end),
         }
@@ -65,6 +70,7 @@ impl fmt::Display for Stop {
             Stop::Words(fault) => write!(f, "{fault}"),
             Stop::Rows(fault) => write!(f, "{fault}"),
             Stop::Keyed(stop) => write!(f, "{stop}"),
+            Stop::KeyedLog(stop) => write!(f, "{stop}"),
             Stop::Live(stop) => write!(f, "{stop}"),
             Stop::End(end) => write!(f, "{end}"),
         }
@@ -112,7 +118,7 @@ pub enum WordsFault {
     NoFile,
     /// New names and their number are of names of a file.
     NoNames,
-    /// A program has its keys, and a log is read by them.
+    /// A program has its keys.
     NotNamed,
     /// The number of names is told, and none is new.
     MostOfNone,
@@ -143,7 +149,7 @@ impl fmt::Display for WordsFault {
                 f.write_str("--lost and --patience are for a LOG that is a file")
             }
             WordsFault::NoNames => f.write_str("--new-keys and --most-keys are for --keys"),
-            WordsFault::NotNamed => f.write_str("--keys takes the text of a query, and rows"),
+            WordsFault::NotNamed => f.write_str("--keys takes the text of a query"),
             WordsFault::KeysOfSource => f.write_str("verify takes --keys or --from"),
             WordsFault::MostOfNone => f.write_str("--most-keys is for --new-keys"),
         }
@@ -191,6 +197,15 @@ impl fmt::Display for RowsFault {
 impl From<End> for Stop {
     fn from(end: End) -> Stop {
         Stop::End(end)
+    }
+}
+
+impl From<KeyedLogStop> for Stop {
+    fn from(stop: KeyedLogStop) -> Stop {
+        match stop {
+            KeyedLogStop::End(end) => Stop::End(end_of_log(end)),
+            stop => Stop::KeyedLog(stop),
+        }
     }
 }
 
