@@ -1,6 +1,8 @@
 //! Runs over logs by any number of keys.
 
+ghost use Rattle.std.specs.Prelude.{ℕ, List, Option, IfOk};
 ghost use Rattle.wsm_turns.specs.Clocks.{AreClocks};
+ghost use Rattle.wsm_keyed_intake.specs.Run.{KeyedLogWritten};
 
 use crate::counting::Counting;
 use crate::counts::Teller;
@@ -41,6 +43,7 @@ pub fn run_log<R: Files + AllocGlobal + Input + Print + Eprint + Clock>(
     }
 }
 
+// Hands the reader of the log on. Where it ends well, the numbers that are told are those of all lines that the reader has.
 fn run_over<R: AllocGlobal + Print + Eprint, I: Read + Drop>(
     rt: &R,
     job: &RunJob,
@@ -51,6 +54,8 @@ fn run_over<R: AllocGlobal + Print + Eprint, I: Read + Drop>(
     log: I,
 ) -> Result<(usize, Ran), KeyedLogStop>
     requires { AreClocks bound.clocks }
+    ensures { IfOk result (λ both. (old : Option (List ℕ)) × (new : Option (List ℕ)) × KeyedLogWritten (I.remaining log)
+        (record { program = verified; source = bound.source; clocks = bound.clocks; names = names; most = most }) old new both.1.totals) }
 {
     let writer = Counting::new(rt.alloc(), io::writer(rt), job.metrics.is_some());
     let mut output = Guarded::new(writer);
