@@ -103,7 +103,8 @@ fn write_run_over<R: AllocGlobal + Print, I: Read + Drop>(
     most: u32,
     rows: I,
 ) -> Result<(usize, Ran), Stop>
-    ensures { IfOk result (λ both. (old : Option (List ℕ)) × (new : Option (List ℕ)) × KeyedOver query.now names most (I.remaining rows) old new both.1.totals) }
+    ensures { IfOk result (λ both. (old : Option (List ℕ)) × (new : Option (List ℕ)) ×
+        KeyedOver query.now names most (I.remaining rows) old new both.1.totals) }
 {
     let alloc = rt.alloc();
     let writer = Counting::new(alloc, io::writer(rt), job.metrics.is_some());

@@ -1,7 +1,8 @@
 //! Runs of a query or a program.
 
 ghost use Rattle.std.specs.Prelude.{ℕ, List, Option, IfOk};
-ghost use Rattle.wsm.specs.Written.{InputWritten};
+ghost use Rattle.wsm_inputs.specs.Inputs.{Means};
+ghost use Rattle.wsm.specs.Written.{InputWritten, RowsWritten};
 
 use crate::counting::Counting;
 use crate::files::{accepted, end_of, input_of, read};
@@ -62,15 +63,18 @@ fn run_rows<R: Files + AllocGlobal + Input + Print>(rt: &R, job: &RunJob) -> Res
     }
 }
 
-// Hands the reader of the rows on, and counts what is written where that is asked for. Where a run of a query's text ends well, the
-// numbers that are told are those of all rows that the reader has.
+// Hands the reader of the rows on, and counts what is written where that is asked for. Where a run ends well, the numbers that are
+// told are those of all rows that the reader has.
 fn write_run_over<R: AllocGlobal + Print, I: Read + Drop>(
     rt: &R,
     input: Judged<'_>,
     is_counted: bool,
     rows: I,
 ) -> Result<Ran, End>
-    ensures { IfOk result (λ ran. (old : Option (List ℕ)) × (new : Option (List ℕ)) × InputWritten input.entry (I.remaining rows) old new ran.totals) }
+    ensures text { IfOk result (λ ran. (old : Option (List ℕ)) × (new : Option (List ℕ)) ×
+        InputWritten input.entry (I.remaining rows) old new ran.totals) }
+    ensures means { (m : _) → Means input.entry m → IfOk result (λ ran. (old : Option (List ℕ)) × (new : Option (List ℕ)) ×
+        RowsWritten (I.remaining rows) old new m ran.totals) }
 {
     let alloc = rt.alloc();
     let writer = Counting::new(alloc, io::writer(rt), is_counted);
