@@ -20,7 +20,7 @@
 //! // What the program needs for a record, for a pane, and how many panes it may hold.
 //! let mut out = Guarded::new(Vec::new(alloc));
 //! assert_eq!(rt; judge_input(alloc, Input::Text(QUERY), false, &mut out)?, true);
-//! assert_eq!(rt; out.into_writer().as_slice(), b"accepted,5,4,6\n");
+//! assert_eq!(rt; out.into_writer().as_slice(), b"accepted,5,4,6\n".as_slice());
 //!
 //! // The bytes of the query's program are judged so too.
 //! let program = compile_text(alloc, QUERY)?;
