@@ -22,6 +22,7 @@ KEPT = 100  # rows of each word
 UNKNOWN = -1
 SPLIT, WHOLE = ("selected", "left out"), ("admitted",)
 RESTS = ("watermarks", "doubles")  # what is neither admitted nor late nor refused: of rows, and of a log
+WHATS = "in, selected, left out, admitted, late, watermarks, doubles, refused WORD"  # for who looks at the table
 END = r"end,([0-9]{1,20}),([0-9]{1,20}),([0-9]{1,20}),([0-9]{1,20}),[0-9]{1,20}"
 REFUSAL = r"refused,([0-9]{1,20}),([A-Za-z]+)"
 
@@ -32,7 +33,7 @@ def made(whole: str) -> List[str]:
     numbered = ("SELECT part, word, row, ROW_NUMBER() OVER (PARTITION BY part, word ORDER BY row) AS number,"
                 f" COUNT(*) OVER (PARTITION BY part, word) AS most FROM {older}")
     return [
-        f"CREATE TABLE counts (part TEXT, what TEXT, number {whole}, at_end {whole}, at_cut {whole}, PRIMARY KEY (part, what))",
+        f"CREATE TABLE counts (part TEXT, what TEXT /* {WHATS} */, number {whole}, at_end {whole}, at_cut {whole}, PRIMARY KEY (part, what))",
         f"CREATE TABLE IF NOT EXISTS refused (part TEXT, row {whole}, word TEXT)",
         f"ALTER TABLE refused RENAME TO {older}",
         f"CREATE TABLE refused (part TEXT, word TEXT, number {whole}, row {whole}, PRIMARY KEY (part, word, number))",
