@@ -99,11 +99,15 @@ waiting_app =
 abbrev pub watermarks_app : App
 watermarks_app = with_rule (with_rule (with_rule (with_rule waiting_app (flag_rule (codes "last"))) (option_rule (codes "metrics"))) (file_rule (codes "query"))) rows_rule
 
--- live [--program] [--from SOURCE] [--lost WHERE] [--health FILE] [--patience SECONDS]
+-- live [--program] [--from SOURCE] [--keys FILE] [--new-keys] [--most-keys N]
+abbrev pub lines_app : App
+lines_app =
+    with_rule (with_rule (with_rule (with_rule (with_rule (new_app (codes "live")) (flag_rule (codes "program"))) (option_rule (codes "from"))) (option_rule (codes "keys")))
+    (flag_rule (codes "new-keys"))) (option_rule (codes "most-keys"))
+
+-- and with [--lost WHERE] [--health FILE] [--patience SECONDS]
 abbrev pub following_app : App
-following_app =
-    with_rule (with_rule (with_rule (with_rule (with_rule (new_app (codes "live")) (flag_rule (codes "program"))) (option_rule (codes "from"))) (option_rule (codes "lost")))
-    (option_rule (codes "health"))) (option_rule (codes "patience"))
+following_app = with_rule (with_rule (with_rule lines_app (option_rule (codes "lost"))) (option_rule (codes "health"))) (option_rule (codes "patience"))
 
 -- and with [--cut BYTES] [--position] DIR [QUERY] [LOG]
 abbrev pub live_app : App
@@ -203,7 +207,7 @@ IsJob name entries (Watermarks job) =
     × HasOption entries (codes "source") job.source × HasOption entries (codes "once") job.once × SaysFlag (one_of (codes "last") entries) job.last
     × HasOption entries (codes "metrics") job.metrics × Names entries (codes "query") job.query × NamesRows entries job.rows
 IsJob name entries (Live job) =
-    (name ≡ codes "live") × SaysFlag (one_of (codes "program") entries) job.program × HasOption entries (codes "from") job.from
+    (name ≡ codes "live") × SaysFlag (one_of (codes "program") entries) job.program × HasOption entries (codes "from") job.from × IsNamed entries job.keys
     × HasOption entries (codes "lost") job.lost × HasOption entries (codes "health") job.health × HasOption entries (codes "patience") job.patience
     × HasOption entries (codes "cut") job.cut × SaysFlag (one_of (codes "position") entries) job.position
     × Names entries (codes "dir") job.dir × HasOption entries (codes "query") job.query × HasOption entries (codes "log") job.log

@@ -2,8 +2,9 @@
 
 ghost use Rattle.std.specs.Prelude.{◌≡◌, IfOk, IfErr, option_map, string_bytes};
 ghost use Rattle.clap.specs.Words.{one_of, found_of, rows_of as entries_of};
-ghost use Rattle.wsm_words.specs.Words.{HasOption, IsMemory, Names, NamesRows, SaysFlag, rows_named};
+ghost use Rattle.wsm_words.specs.Words.{HasOption, IsMemory, IsNamed, Names, NamesRows, SaysFlag, rows_named};
 
+use crate::job::Named;
 use crate::refusal::WordsRefusal;
 use clap::ArgMatches;
 use std::alloc::{AllocError, Global};
@@ -37,6 +38,21 @@ pub fn file_of(alloc: Global, inner: &ArgMatches<'_>, id: &str) -> Result<String
         // This doesn't come: `file` and `needed` have each of them required, so `clap` refuses words without one.
         None => Err(WordsRefusal::Memory),
     }
+}
+
+/// The keys that a parse names.
+pub fn named_in(alloc: Global, inner: &ArgMatches<'_>) -> Result<Named, WordsRefusal>
+    ensures named { IfOk result (IsNamed (entries_of (found_of inner.now))) }
+    ensures refused { IfErr result IsMemory }
+{
+    let file = option_of(alloc, inner, "keys")?;
+    let takes_new = flag_of(inner, "new-keys");
+    let most = option_of(alloc, inner, "most-keys")?;
+    Ok(Named {
+        file,
+        takes_new,
+        most,
+    })
 }
 
 /// The name of the file of the rows that a parse gives, if it gives one.

@@ -199,6 +199,8 @@ pub struct LiveJob {
     pub program: bool,
     /// The file of the source by which the lines are read; none is named to tell a position.
     pub from: Option<String>,
+    /// Which keys a query without a KEYS clause has.
+    pub keys: Named,
     /// Where to go on where lines that were read are gone; nowhere where it isn't said.
     pub lost: Option<String>,
     /// The file of what the run has come to; one in the folder where it isn't said.

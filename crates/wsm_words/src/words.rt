@@ -27,7 +27,8 @@ use std::alloc::Global;
 /// `deal [--keys-of] KEYS PARTS OUT [ROWS]`, `rows [--program] SOURCE QUERY [LOG]`,
 /// `keep [--program] [--taken LINES] [--most BYTES] QUERY [ROWS]`, `watermarks [--program] [--agree K] --bound BOUND
 /// [--step STEP] [--forget N] [--room N] [--source NAME] [--once CELL] [--last] [--metrics FILE] QUERY [ROWS]` or
-/// `live [--program] [--from SOURCE] [--lost WHERE] [--health FILE] [--patience SECONDS] [--cut BYTES] [--position] DIR [QUERY] [LOG]`.
+/// `live [--program] [--from SOURCE] [--keys FILE] [--new-keys] [--most-keys N] [--lost WHERE] [--health FILE] [--patience SECONDS]
+/// [--cut BYTES] [--position] DIR [QUERY] [LOG]`.
 /// Words that `clap` takes are refused for want of memory alone. Others are refused by a fault that `clap` finds in them, or for want of memory.
 pub fn command_of(alloc: Global, words: &[&str]) -> Result<Job, WordsRefusal>
     ensures job { IfOk result (IsJobOf (subcommand_of the_app (map (λ s. s.now) words.now))) }

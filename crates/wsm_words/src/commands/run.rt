@@ -2,12 +2,12 @@
 
 ghost use Rattle.std.specs.Prelude.{◌≡◌, IfOk, IfErr, codes};
 ghost use Rattle.clap.specs.Words.{app_of, found_of, rows_of as entries_of};
-ghost use Rattle.wsm_words.specs.Words.{counting_app, run_app, IsJob, IsMemory, IsNamed};
+ghost use Rattle.wsm_words.specs.Words.{counting_app, run_app, IsJob, IsMemory};
 
 use crate::arguments::{command, file, flag, option, rows_file};
-use crate::entries::{file_of, flag_of, option_of, rows_in};
+use crate::entries::{file_of, flag_of, named_in, option_of, rows_in};
 use crate::help;
-use crate::job::{Job, Named, RunJob};
+use crate::job::{Job, RunJob};
 use crate::refusal::WordsRefusal;
 use clap::{ArgMatches, Command};
 use std::alloc::{AllocError, Global};
@@ -55,19 +55,4 @@ pub fn run_job(alloc: Global, inner: &ArgMatches<'_>) -> Result<Job, WordsRefusa
         query,
         rows,
     }))
-}
-
-// The keys that a parse names.
-fn named_in(alloc: Global, inner: &ArgMatches<'_>) -> Result<Named, WordsRefusal>
-    ensures named { IfOk result (IsNamed (entries_of (found_of inner.now))) }
-    ensures refused { IfErr result IsMemory }
-{
-    let file = option_of(alloc, inner, "keys")?;
-    let takes_new = flag_of(inner, "new-keys");
-    let most = option_of(alloc, inner, "most-keys")?;
-    Ok(Named {
-        file,
-        takes_new,
-        most,
-    })
 }

@@ -4,8 +4,6 @@ use Rattle.wsm_words.proofs.commands.live.following_command.Goals as goal
 
 pub returns : goal.returns
 returns c =
-    let flagged = c.in_ok-arg.ensures.shape c.flag.ensures.local ∙ ap₂ with_rule c.command.ensures c.flag.ensures.rule in
-    let sourced = c.in_ok-arg-2.ensures.shape c.option.ensures.local ∙ ap₂ with_rule flagged c.option.ensures.rule in
-    let mended = c.in_ok-arg-3.ensures.shape c.option-2.ensures.local ∙ ap₂ with_rule sourced c.option-2.ensures.rule in
-    let told = c.in_ok-arg-4.ensures.shape c.option-3.ensures.local ∙ ap₂ with_rule mended c.option-3.ensures.rule in
-    c.in_ok-live.ensures.shape c.option-4.ensures.local ∙ ap₂ with_rule told c.option-4.ensures.rule
+    let mended = c.in_ok-arg.ensures.shape c.option.ensures.local ∙ ap₂ with_rule c.in_ok-lines_command.ensures c.option.ensures.rule in
+    let told = c.in_ok-arg-2.ensures.shape c.option-2.ensures.local ∙ ap₂ with_rule mended c.option-2.ensures.rule in
+    c.in_ok-live.ensures.shape c.option-3.ensures.local ∙ ap₂ with_rule told c.option-3.ensures.rule
