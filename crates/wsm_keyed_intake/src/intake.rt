@@ -70,6 +70,7 @@ impl KeyedIntake {
     ghost use Rattle.wsm_admission.specs.Admission.{counter};
     ghost use Rattle.wsm_csv.specs.Device.{TakesPart};
     ghost use Rattle.wsm_program.specs.Program.{Program};
+    ghost use Rattle.wsm_semantics.specs.Query.{mark};
     ghost use Rattle.wsm_lines.specs.Key.{are_same};
     ghost use Rattle.wsm_lines.specs.Reader.{clock_read, event_read};
     ghost use Rattle.wsm_turns.specs.declared.clocks.Clocks.{Clocks as AnyClocks};
@@ -284,6 +285,13 @@ impl KeyedIntake {
             refused: self.faults.saturating_add(totals.refused),
             panes: totals.panes,
         }
+    }
+
+    /// The watermark.
+    pub fn mark(&self) -> i64
+        ensures { (p : Program) (past : List AnyEvent) → Serves p self.now.told past → result ≡ mark (of_names p self.now.told.names) past }
+    {
+        self.told.mark()
     }
 
     /// How many names there are.

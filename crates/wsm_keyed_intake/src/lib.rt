@@ -5,7 +5,7 @@
 #![tactic(auto)]
 
 pub use intake::KeyedIntake;
-pub use log::run_keyed_log;
+pub use log::{open_keyed_log, run_keyed_log};
 pub use run::{KeyedLogTotals, run_parts};
 pub use stop::KeyedLogStop;
 

@@ -1,12 +1,13 @@
 //! Runs of accepted programs over logs, by any number of names.
 
-ghost use Rattle.std.specs.Prelude.{◌≡◌, ◌↔◌, Err, true, false, IfErr, IfOk, OnOk, IsTrue};
+ghost use Rattle.std.specs.Prelude.{◌≡◌, ◌↔◌, ℕ, List, [], Err, true, false, IfErr, IfOk, OnOk, IsTrue};
 ghost use Rattle.wsm_lines.specs.Key.{are_same};
 ghost use Rattle.wsm_turns.specs.Clocks.{AreClocks};
 ghost use Rattle.wsm_keyed_intake.specs.Run.{KeyedLogCounted, KeyedLogWritten};
-ghost use Rattle.wsm_keyed_intake.specs.Stops.{IsUnopened, Stops};
-ghost use Rattle.wsm_keyed_intake.specs.Turns.{AreNamed, IsOpened};
+ghost use Rattle.wsm_keyed_intake.specs.Stops.{IsUnopened, IsUnrun, Stops};
+ghost use Rattle.wsm_keyed_intake.specs.Turns.{AreNamed, Fits, IsOpened};
 
+use crate::intake::KeyedIntake;
 use crate::run::{KeyedLogTotals, run_parts};
 use crate::stop::KeyedLogStop;
 use std::alloc::Global;
@@ -46,17 +47,59 @@ pub fn run_keyed_log<R: Read + Drop, D: Device, L: Listener>(
     ensures flushed { OnOk result (D.is_flushed out.new ≡ true) }
     ensures write_failed { result ≡ Err (KeyedLogStop.End LogEnd.WriteFailed) → D.has_failed out.new ≡ true }
 {
-    if !has_own_names(&source) {
+    let parts = parts_for(alloc, verified, &source, clocks)?;
+    let totals = run_parts(
+        alloc, parts, source, clocks, names, most, reader, out, listener,
+    )?;
+    Ok(totals)
+}
+
+/// What takes the lines of a log by any number of names, as [`run_keyed_log`] does, of which no line came.
+///
+/// # Errors
+///
+/// The program, the source or the clocks aren't run so, or memory was refused.
+pub fn open_keyed_log(
+    alloc: Global,
+    verified: Verified,
+    source: Source,
+    clocks: Option<Clocks>,
+    names: KeyNames,
+    most: u32,
+) -> Result<KeyedIntake, KeyedLogStop>
+    requires { AreClocks clocks }
+    ensures fits { IfOk result (λ intake.
+        Fits (record { program = verified; source = source; clocks = clocks; names = names; most = most }) intake []) }
+    ensures unrun { IfErr result (IsUnrun (record { program = verified; source = source; clocks = clocks; names = names; most = most })) }
+{
+    let parts = parts_for(alloc, verified, &source, clocks)?;
+    match KeyedIntake::open(alloc, parts, source, clocks, names, most) {
+        Ok(intake) => Ok(intake),
+        Err(_) => Err(KeyedLogStop::End(LogEnd::Memory)),
+    }
+}
+
+// The engines of a program before the first event, where it, the source and the clocks are run so.
+fn parts_for(
+    alloc: Global,
+    verified: Verified,
+    source: &Source,
+    clocks: Option<Clocks>,
+) -> Result<Parts, KeyedLogStop>
+    ensures program { IfOk result (λ parts. parts.program ≡ verified) }
+    ensures opened { IfOk result IsOpened }
+    ensures texts { OnOk result (are_same source.now.key.names ≡ true) }
+    ensures named { OnOk result (AreNamed clocks) }
+    ensures unrun { (names : List (List ℕ)) (most : ℕ) →
+        IfErr result (IsUnrun (record { program = verified; source = source.now; clocks = clocks; names = names; most = most })) }
+{
+    if !has_own_names(source) {
         return Err(KeyedLogStop::KeyTable);
     }
     if !are_named(clocks) {
         return Err(KeyedLogStop::KeyClocks);
     }
-    let parts = parts_of(alloc, verified)?;
-    let totals = run_parts(
-        alloc, parts, source, clocks, names, most, reader, out, listener,
-    )?;
-    Ok(totals)
+    parts_of(alloc, verified)
 }
 
 // Whether a source names each key by its own text.

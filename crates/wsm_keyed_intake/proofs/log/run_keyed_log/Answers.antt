@@ -1,44 +1,30 @@
-use Rattle.std.proofs.Common.{◌≡◌, ◌∙◌, Option, List, ℕ, Some, None, refl, sym, subst, inl, inr}
-use Rattle.std.proofs.lemmas.Bool.{true≢false}
+use Rattle.std.proofs.Common.{◌≡◌, Option, List, ℕ, Some, None, refl, subst, inl, inr}
 use Rattle.std.proofs.lemmas.Result.{err_from_is_err_and}
 use Rattle.std.specs.Io.KnownBytes.{Keeps}
 use Rattle.wsm_program.specs.Program.{Program}
 use Rattle.wsm_log_rows.specs.declared.end.LogEnd.TheVariants.{WriteFailed}
-use Rattle.wsm_keyed_intake.specs.declared.stop.KeyedLogStop.{KeyedLogStop}
 use Rattle.wsm_keyed_intake.specs.declared.stop.KeyedLogStop.TheVariants as stops
 use Rattle.wsm_keyed_intake.specs.KeyedLog.{KeyedLog}
 use Rattle.wsm_keyed_intake.specs.Run.{KeyedLogBroken, KeyedLogCounted, KeyedLogWritten}
-use Rattle.wsm_keyed_intake.specs.Stops.{IsUnopened, IsUnrun}
+use Rattle.wsm_keyed_intake.specs.Stops.{IsUnrun}
 use Rattle.wsm_keyed_intake.proofs.log.run_keyed_log.Goals as goal
 
 keeps_same : (known : Option (List ℕ)) → Keeps known known
 keeps_same None = tt
 keeps_same (Some bytes) = refl
 
-unrun_of : (k : KeyedLog) (stop : KeyedLogStop) → IsUnopened k.program stop → IsUnrun k stop
-unrun_of k stops.Streams h = h
-unrun_of k stops.ReadsKey h = h
-unrun_of k stops.KeyTable h = absurd h
-unrun_of k stops.KeyClocks h = absurd h
-unrun_of k (stops.End end) h = h
-
-pub returns-then-not-has_own_names-clause-ends_early : goal.returns-then-not-has_own_names-clause-ends_early
-returns-then-not-has_own_names-clause-ends_early g c = inl (sym c.has_own_names.ensures ∙ c.if-not-has_own_names.true, keeps_same (g.D.Device.taken c.args.out.now))
-
-pub returns-then-not-are_named-clause-ends_early : goal.returns-then-not-are_named-clause-ends_early
-returns-then-not-are_named-clause-ends_early g c = inl (λ named. true≢false (sym (c.are_named.ensures.1 named) ∙ c.if-not-are_named.true), keeps_same (g.D.Device.taken c.args.out.now))
-
 pub returns-in_err-parts-clause-ends_early : goal.returns-in_err-parts-clause-ends_early
 returns-in_err-parts-clause-ends_early g c =
     let e = err_from_is_err_and c.from_residual.result c.from_residual.ensures.1 in
-    let k : KeyedLog = record { program = c.args.verified; source = c.args.source; clocks = c.args.clocks; names = c.args.names; most = c.args.most } in
-    rw (e.1, e.2) (inl (unrun_of k c.in_err-parts.field-0.0 c.in_err-parts.ensures.unopened, keeps_same (g.D.Device.taken c.args.out.now)))
+    rw (e.1, e.2) (inl (c.in_err-parts.ensures.unrun c.args.names c.args.most, keeps_same (g.D.Device.taken c.args.out.now)))
 
 pub returns-in_err-parts-clause-write_failed : goal.returns-in_err-parts-clause-write_failed
 returns-in_err-parts-clause-write_failed g c =
     let e = err_from_is_err_and c.from_residual.result c.from_residual.ensures.1 in
+    let k : KeyedLog = record { program = c.args.verified; source = c.args.source; clocks = c.args.clocks; names = c.args.names; most = c.args.most } in
     rw (e.1, e.2) (λ failed.
-    let same : c.in_err-parts.field-0.0 ≡ stops.End WriteFailed = cc failed in absurd (subst (IsUnopened c.args.verified) same c.in_err-parts.ensures.unopened))
+    let same : c.in_err-parts.field-0.0 ≡ stops.End WriteFailed = cc failed in
+    absurd (subst (IsUnrun k) same (c.in_err-parts.ensures.unrun c.args.names c.args.most)))
 
 pub returns-in_err-totals-clause-ends_early : goal.returns-in_err-totals-clause-ends_early
 returns-in_err-totals-clause-ends_early g c =
