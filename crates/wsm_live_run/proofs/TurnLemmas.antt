@@ -13,7 +13,7 @@ front-text : (byte : ℕ) (lines : List (List ℕ)) → text_of (with_front byte
 front-text byte [] = refl
 front-text byte (line ∷ lines) = refl
 
-lines-text : (text : List ℕ) → text_of (lines_in text) ≡ text
+pub lines-text : (text : List ℕ) → text_of (lines_in text) ≡ text
 lines-text [] = refl
 lines-text (byte ∷ text) = by_byte (byte == 10) (lines-text text)
   where
@@ -21,7 +21,7 @@ lines-text (byte ∷ text) = by_byte (byte == 10) (lines-text text)
     by_byte true rest = ap (λ (l : List ℕ). byte ∷ l) rest
     by_byte false rest = front-text byte (lines_in text) ∙ ap (λ (l : List ℕ). byte ∷ l) rest
 
-text-append : (first second : List (List ℕ)) → text_of (first ++ second) ≡ text_of first ++ text_of second
+pub text-append : (first second : List (List ℕ)) → text_of (first ++ second) ≡ text_of first ++ text_of second
 text-append [] second = refl
 text-append (line ∷ first) second = ap (λ (l : List ℕ). line ++ l) (text-append first second) ∙ sym (append_assoc line (text_of first) (text_of second))
 

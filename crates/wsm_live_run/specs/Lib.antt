@@ -1,3 +1,5 @@
 pub mod Turns
 pub mod Known
 pub mod Seen
+pub mod KeyedTurns
+pub mod KeyedSeen
