@@ -7,14 +7,14 @@ use crate::counting::Counting;
 use crate::files::{end_of, read};
 use crate::keyed_logs::run_log;
 use crate::metrics::{Ran, write_run};
-use crate::numbers::number_in;
+use crate::names::{most_of, names_in};
 use crate::stop::{Stop, WordsFault};
 use std::fs::File;
 use std::io::{self, Eprint, Read};
 use std::rt::Files;
 use std::time::Clock;
-use wsm::{End, Guarded, SharesRefusal};
-use wsm_key_names::{KeyNames, KeyNamesRefusal};
+use wsm::{End, Guarded};
+use wsm_key_names::KeyNames;
 use wsm_keyed_run::run_keyed_over;
 use wsm_words::RunJob;
 
@@ -29,9 +29,10 @@ pub fn run_named<R: Files<File = File> + AllocGlobal + Input + Print + Eprint + 
     if job.program {
         return Err(Stop::Words(WordsFault::NotNamed));
     }
-    let most = most_of(job)?;
+    let most = most_of(&job.keys)?;
     let query = read(rt, &job.query)?;
-    let names = names_of(rt, names, most)?;
+    let text = read(rt, names)?;
+    let names = names_in(rt.alloc(), &text, most)?;
     let of_file = names.len();
     let (count, ran) = match &job.from {
         None => run_rows(rt, job, &query, names, most)?,
@@ -40,40 +41,6 @@ pub fn run_named<R: Files<File = File> + AllocGlobal + Input + Print + Eprint + 
     tell_new(rt, count.saturating_sub(of_file));
     write_run(rt, job.metrics.as_ref(), &ran)?;
     Ok(true)
-}
-
-// How many names there may be; those of the file alone where none is new.
-fn most_of(job: &RunJob) -> Result<u32, Stop> {
-    let most = number_in(job.keys.most.as_ref(), "--most-keys")?;
-    if !job.keys.takes_new {
-        return match most {
-            None => Ok(0),
-            Some(_) => Err(Stop::Words(WordsFault::MostOfNone)),
-        };
-    }
-    match most {
-        None => Ok(u32::MAX),
-        Some(most) => Ok(u32::try_from(most).unwrap_or(u32::MAX)),
-    }
-}
-
-// The names of a file. Where none may be new, there has to be one.
-fn names_of<R: Files + AllocGlobal>(rt: &R, file: &String, most: u32) -> Result<KeyNames, End> {
-    let text = read(rt, file)?;
-    match KeyNames::read(rt.alloc(), &text) {
-        Ok(names) if names.len() == 0 && most == 0 => Err(End::from(SharesRefusal::NoNames)),
-        Ok(names) => Ok(names),
-        Err(refusal) => Err(End::from(refusal_of(refusal))),
-    }
-}
-
-// Why a file has no names, as it is told of files that keys are dealt by.
-fn refusal_of(refusal: KeyNamesRefusal) -> SharesRefusal {
-    match refusal {
-        KeyNamesRefusal::BadName(line) => SharesRefusal::BadName(line),
-        KeyNamesRefusal::DuplicateName(line) => SharesRefusal::DuplicateName(line),
-        KeyNamesRefusal::Memory => SharesRefusal::Memory,
-    }
 }
 
 // Runs the query over a file of rows, or over standard input. Answers how many names there are then.

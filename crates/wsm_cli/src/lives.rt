@@ -3,63 +3,30 @@
 ghost use Rattle.wsm_turns.specs.Clocks.{AreClocks};
 
 use crate::files::{input_of, read};
-use crate::numbers::number_or;
+use crate::live_settings::{Going, Over};
+use crate::names::{most_of, names_in};
 use crate::sources::{Bound, bytes_of_source, source_for};
 use crate::stop::{Stop, WordsFault};
+use std::alloc::{AllocError, Global};
 use std::fs::File;
 use std::io::{self, Eprint, Write};
 use std::rt::Files;
-use std::time::{Clock, Duration};
-use wsm::accepted_of;
+use std::time::Clock;
+use wsm::{Input as Judged, accepted_of};
+use wsm_bytecode::encode;
 use wsm_explain::live_sum;
-use wsm_live_loop::{LiveStop, Settings, feed, follow, position_of};
-use wsm_live_run::live_run;
+use wsm_key_names::KeyNames;
+use wsm_keyed_run::checked_by_places;
+use wsm_live_loop::{LiveStop, position_of};
+use wsm_live_run::{keyed_live_run, live_run};
 use wsm_rules::Verified;
 use wsm_words::LiveJob;
-
-// For how many seconds nothing comes to a log that has ended, where it isn't said.
-const PATIENCE: u64 = 3;
-
-// By how many bytes the journal grows until it is cut, where it isn't said.
-const CUT: u64 = 16_777_216;
-
-// What a run is over.
-#[derive(Clone, Copy)]
-struct Over<'j> {
-    from: &'j String,
-    query: &'j String,
-    log: &'j String,
-}
-
-impl<'j> Over<'j> {
-    // What the words name, if they name all of it.
-    fn of(job: &'j LiveJob) -> Result<Over<'j>, Stop> {
-        let Some(from) = &job.from else {
-            return Err(Stop::Words(WordsFault::NoLive));
-        };
-        let Some(query) = &job.query else {
-            return Err(Stop::Words(WordsFault::NoLive));
-        };
-        let Some(log) = &job.log else {
-            return Err(Stop::Words(WordsFault::NoLive));
-        };
-        Ok(Over { from, query, log })
-    }
-
-    // Whether a source writes its lines on standard input.
-    fn is_fed(self) -> bool {
-        self.log.as_str() == "-"
-    }
-}
 
 // What a run is made of, before anything is touched.
 struct Ready {
     verified: Verified,
     bound: Bound,
     sum: u32,
-    patience: u64,
-    cut: u64,
-    goes_on: bool,
 }
 
 // It is let go in one call, however many parts it has.
@@ -69,9 +36,6 @@ impl Drop for Ready {
             verified: _,
             bound: _,
             sum: _,
-            patience: _,
-            cut: _,
-            goes_on: _,
         } = self;
     }
 }
@@ -86,12 +50,18 @@ pub fn live<R: Files<File = File> + AllocGlobal + Input + Print + Eprint + Clock
         return tell_position(rt, job);
     }
     let over = Over::of(job)?;
-    if over.is_fed() && (job.lost.is_some() || job.patience.is_some()) {
-        return Err(Stop::Words(WordsFault::NoFile));
+    let going = Going::of(job, over)?;
+    match &job.keys.file {
+        Some(names) => live_named(rt, job, over, going, names),
+        None if is_keyed(job) => Err(Stop::Words(WordsFault::NoNames)),
+        None => live_declared(rt, job, over, going),
     }
-    let patience = number_or(job.patience.as_ref(), "--patience", PATIENCE)?;
-    let cut = number_or(job.cut.as_ref(), "--cut", CUT)?;
-    let goes_on = goes_on_of(job.lost.as_ref())?;
+}
+
+// Runs a query or a program that declares its keys.
+fn live_declared<
+    R: Files<File = File> + AllocGlobal + Input + Print + Eprint + Clock + Clone + Drop,
+>(rt: &R, job: &LiveJob, over: Over<'_>, going: Going<'_>) -> Result<bool, Stop> {
     let bytes = read(rt, over.query)?;
     let input = input_of(job.program, &bytes);
     let verified = accepted_of(rt.alloc(), input)?;
@@ -102,11 +72,54 @@ pub fn live<R: Files<File = File> + AllocGlobal + Input + Print + Eprint + Clock
         verified,
         bound,
         sum,
-        patience,
-        cut,
-        goes_on,
     };
-    ready.run(rt, job, over)
+    ready.run(rt, going)
+}
+
+// Runs a query without a KEYS clause by the names of a file.
+fn live_named<R: Files<File = File> + AllocGlobal + Input + Print + Eprint + Clock + Clone + Drop>(
+    rt: &R,
+    job: &LiveJob,
+    over: Over<'_>,
+    going: Going<'_>,
+    names: &String,
+) -> Result<bool, Stop> {
+    if job.program {
+        return Err(Stop::Words(WordsFault::NotNamed));
+    }
+    let most = most_of(&job.keys)?;
+    let query = read(rt, over.query)?;
+    let text = read(rt, names)?;
+    let names = names_in(rt.alloc(), &text, most)?;
+    let verified = checked_by_places(rt.alloc(), &query)?;
+    let program = encode(rt.alloc(), verified.program())?;
+    let bound = source_for(rt, over.from, &verified)?;
+    let mut source = bytes_of_source(rt, over.from)?;
+    add_keys(rt.alloc(), &text, most, &mut source)?;
+    let sum = live_sum(
+        rt.alloc(),
+        Judged::Program(&program),
+        &source,
+        over.is_fed(),
+    )?;
+    let ready = Ready {
+        verified,
+        bound,
+        sum,
+    };
+    ready.run_named(rt, going, names, most)
+}
+
+// Adds to the bytes of a source what says which keys there are: the names of a file, and how many there may be.
+fn add_keys(
+    alloc: Global,
+    names: &[u8],
+    most: u32,
+    source: &mut Vec<u8>,
+) -> Result<(), AllocError> {
+    let front = format!(in alloc; "keys,{most}\n")?;
+    source.extend_from_slice(front.as_bytes())?;
+    source.extend_from_slice(names)
 }
 
 impl Ready {
@@ -114,8 +127,7 @@ impl Ready {
     fn run<R: Files<File = File> + AllocGlobal + Input + Print + Eprint + Clock + Clone + Drop>(
         self,
         rt: &R,
-        job: &LiveJob,
-        over: Over<'_>,
+        going: Going<'_>,
     ) -> Result<bool, Stop>
         requires { AreClocks self.bound.clocks }
     {
@@ -123,38 +135,28 @@ impl Ready {
             verified,
             bound,
             sum,
-            patience,
-            cut,
-            goes_on,
         } = self;
         let Bound { source, clocks } = bound;
         let longest = source.longest;
-        let settings = Settings {
-            dir: job.dir.as_str(),
-            log: over.log.as_str(),
-            health: job.health.as_ref().map(|file| file.as_str()),
-            patience: Duration::from_secs(patience),
-            cut,
-            goes_on,
-            sum,
-            longest,
-        };
         let run = live_run(rt.alloc(), verified, source, clocks)?;
-        if over.is_fed() {
-            feed(rt, &settings, rt.reader(), run)?;
-        } else {
-            follow(rt, &settings, run)?;
-        }
-        Ok(true)
+        going.run(rt, sum, longest, run)
     }
-}
 
-// Whether it goes on at the beginning of the log where lines are gone.
-fn goes_on_of(word: Option<&String>) -> Result<bool, Stop> {
-    match word {
-        None => Ok(false),
-        Some(word) if word.as_str() == "begin" => Ok(true),
-        Some(_) => Err(Stop::Words(WordsFault::NoPlace)),
+    // The same by these names, of which there may be so many.
+    fn run_named<
+        R: Files<File = File> + AllocGlobal + Input + Print + Eprint + Clock + Clone + Drop,
+    >(self, rt: &R, going: Going<'_>, names: KeyNames, most: u32) -> Result<bool, Stop>
+        requires { AreClocks self.bound.clocks }
+    {
+        let Ready {
+            verified,
+            bound,
+            sum,
+        } = self;
+        let Bound { source, clocks } = bound;
+        let longest = source.longest;
+        let run = keyed_live_run(rt.alloc(), verified, source, clocks, names, most)?;
+        going.run(rt, sum, longest, run)
     }
 }
 
@@ -179,5 +181,11 @@ fn tell_position<R: Files<File = File> + AllocGlobal + Print>(
 fn is_alone(job: &LiveJob) -> bool {
     let names_run = job.from.is_some() || job.query.is_some() || job.log.is_some();
     let tells_how = job.lost.is_some() || job.health.is_some() || job.patience.is_some();
-    !job.program && !names_run && !tells_how && job.cut.is_none()
+    let names_keys = job.keys.file.is_some() || is_keyed(job);
+    !job.program && !names_run && !tells_how && !names_keys && job.cut.is_none()
+}
+
+// Whether the words say of names of a file that there are new ones, or how many there may be.
+fn is_keyed(job: &LiveJob) -> bool {
+    job.keys.takes_new || job.keys.most.is_some()
 }

@@ -1,0 +1,41 @@
+//! The names of any number of keys.
+
+use crate::numbers::number_in;
+use crate::stop::{Stop, WordsFault};
+use std::alloc::Global;
+use wsm::{End, SharesRefusal};
+use wsm_key_names::{KeyNames, KeyNamesRefusal};
+use wsm_words::Named;
+
+/// How many names there may be; those of the file alone where none is new.
+pub fn most_of(keys: &Named) -> Result<u32, Stop> {
+    let most = number_in(keys.most.as_ref(), "--most-keys")?;
+    if !keys.takes_new {
+        return match most {
+            None => Ok(0),
+            Some(_) => Err(Stop::Words(WordsFault::MostOfNone)),
+        };
+    }
+    match most {
+        None => Ok(u32::MAX),
+        Some(most) => Ok(u32::try_from(most).unwrap_or(u32::MAX)),
+    }
+}
+
+/// The names of a file's text. Where none may be new, there has to be one.
+pub fn names_in(alloc: Global, text: &[u8], most: u32) -> Result<KeyNames, End> {
+    match KeyNames::read(alloc, text) {
+        Ok(names) if names.len() == 0 && most == 0 => Err(End::from(SharesRefusal::NoNames)),
+        Ok(names) => Ok(names),
+        Err(refusal) => Err(End::from(refusal_of(refusal))),
+    }
+}
+
+// Why a file has no names, as it is told of files that keys are dealt by.
+fn refusal_of(refusal: KeyNamesRefusal) -> SharesRefusal {
+    match refusal {
+        KeyNamesRefusal::BadName(line) => SharesRefusal::BadName(line),
+        KeyNamesRefusal::DuplicateName(line) => SharesRefusal::DuplicateName(line),
+        KeyNamesRefusal::Memory => SharesRefusal::Memory,
+    }
+}
