@@ -8,6 +8,7 @@ use crate::files::{end_of, read};
 use crate::keyed_logs::run_log;
 use crate::metrics::{Ran, write_run};
 use crate::names::{most_of, names_in};
+use crate::sources::SourceFile;
 use crate::stop::{Stop, WordsFault};
 use std::fs::File;
 use std::io::{self, Eprint, Read};
@@ -24,6 +25,7 @@ pub fn run_named<R: Files<File = File> + AllocGlobal + Input + Print + Eprint + 
     rt: &R,
     job: &RunJob,
     names: &String,
+    source: Option<&SourceFile<'_>>,
     is_looked_at: bool,
 ) -> Result<bool, Stop> {
     if job.program {
@@ -34,7 +36,7 @@ pub fn run_named<R: Files<File = File> + AllocGlobal + Input + Print + Eprint + 
     let text = read(rt, names)?;
     let names = names_in(rt.alloc(), &text, most)?;
     let of_file = names.len();
-    let (count, ran) = match &job.from {
+    let (count, ran) = match source {
         None => run_rows(rt, job, &query, names, most)?,
         Some(source) => run_log(rt, job, source, &query, names, most, is_looked_at)?,
     };

@@ -8,7 +8,7 @@ use crate::counting::Counting;
 use crate::counts::Teller;
 use crate::logs::opened;
 use crate::metrics::Ran;
-use crate::sources::{Bound, source_for};
+use crate::sources::{Bound, SourceFile};
 use crate::stop::Stop;
 use std::io::{self, Eprint, Read};
 use std::rt::Files;
@@ -26,14 +26,14 @@ use wsm_words::RunJob;
 pub fn run_log<R: Files + AllocGlobal + Input + Print + Eprint + Clock>(
     rt: &R,
     job: &RunJob,
-    source: &String,
+    source: &SourceFile<'_>,
     query: &[u8],
     names: KeyNames,
     most: u32,
     is_looked_at: bool,
 ) -> Result<(usize, Ran), Stop> {
     let verified = checked_by_places(rt.alloc(), query)?;
-    let bound = source_for(rt, source, &verified)?;
+    let bound = source.bound(rt, &verified)?;
     match &job.rows {
         None => Ok(run_over(rt, job, verified, bound, names, most, rt.reader())?),
         Some(log) => {

@@ -4,8 +4,8 @@ ghost use Rattle.wsm_turns.specs.Clocks.{AreClocks};
 
 use crate::files::{input_of, read};
 use crate::live_settings::{Going, Over};
-use crate::names::{most_of, names_in};
-use crate::sources::{Bound, bytes_of_source, source_for};
+use crate::names::{file_of_names, most_of, names_in};
+use crate::sources::{Bound, SourceFile};
 use crate::stop::{Stop, WordsFault};
 use std::alloc::{AllocError, Global};
 use std::fs::File;
@@ -51,23 +51,29 @@ pub fn live<R: Files<File = File> + AllocGlobal + Input + Print + Eprint + Clock
     }
     let over = Over::of(job)?;
     let going = Going::of(job, over)?;
-    match &job.keys.file {
-        Some(names) => live_named(rt, job, over, going, names),
-        None if is_keyed(job) => Err(Stop::Words(WordsFault::NoNames)),
-        None => live_declared(rt, job, over, going),
+    let source = SourceFile::of(rt, over.from);
+    match file_of_names(rt, &job.keys, Some(&source))? {
+        Some(names) => live_named(rt, job, over, &source, going, &names),
+        None => live_declared(rt, job, over, &source, going),
     }
 }
 
 // Runs a query or a program that declares its keys.
 fn live_declared<
     R: Files<File = File> + AllocGlobal + Input + Print + Eprint + Clock + Clone + Drop,
->(rt: &R, job: &LiveJob, over: Over<'_>, going: Going<'_>) -> Result<bool, Stop> {
+>(
+    rt: &R,
+    job: &LiveJob,
+    over: Over<'_>,
+    source: &SourceFile<'_>,
+    going: Going<'_>,
+) -> Result<bool, Stop> {
     let bytes = read(rt, over.query)?;
     let input = input_of(job.program, &bytes);
     let verified = accepted_of(rt.alloc(), input)?;
-    let bound = source_for(rt, over.from, &verified)?;
-    let source = bytes_of_source(rt, over.from)?;
-    let sum = live_sum(rt.alloc(), input, &source, over.is_fed())?;
+    let bound = source.bound(rt, &verified)?;
+    let told = source.told(rt)?;
+    let sum = live_sum(rt.alloc(), input, &told, over.is_fed())?;
     let ready = Ready {
         verified,
         bound,
@@ -81,6 +87,7 @@ fn live_named<R: Files<File = File> + AllocGlobal + Input + Print + Eprint + Clo
     rt: &R,
     job: &LiveJob,
     over: Over<'_>,
+    source: &SourceFile<'_>,
     going: Going<'_>,
     names: &String,
 ) -> Result<bool, Stop> {
@@ -93,15 +100,10 @@ fn live_named<R: Files<File = File> + AllocGlobal + Input + Print + Eprint + Clo
     let names = names_in(rt.alloc(), &text, most)?;
     let verified = checked_by_places(rt.alloc(), &query)?;
     let program = encode(rt.alloc(), verified.program())?;
-    let bound = source_for(rt, over.from, &verified)?;
-    let mut source = bytes_of_source(rt, over.from)?;
-    add_keys(rt.alloc(), &text, most, &mut source)?;
-    let sum = live_sum(
-        rt.alloc(),
-        Judged::Program(&program),
-        &source,
-        over.is_fed(),
-    )?;
+    let bound = source.bound(rt, &verified)?;
+    let mut told = source.told(rt)?;
+    add_keys(rt.alloc(), &text, most, &mut told)?;
+    let sum = live_sum(rt.alloc(), Judged::Program(&program), &told, over.is_fed())?;
     let ready = Ready {
         verified,
         bound,
@@ -181,11 +183,6 @@ fn tell_position<R: Files<File = File> + AllocGlobal + Print>(
 fn is_alone(job: &LiveJob) -> bool {
     let names_run = job.from.is_some() || job.query.is_some() || job.log.is_some();
     let tells_how = job.lost.is_some() || job.health.is_some() || job.patience.is_some();
-    let names_keys = job.keys.file.is_some() || is_keyed(job);
+    let names_keys = job.keys.file.is_some() || job.keys.takes_new || job.keys.most.is_some();
     !job.program && !names_run && !tells_how && !names_keys && job.cut.is_none()
-}
-
-// Whether the words say of names of a file that there are new ones, or how many there may be.
-fn is_keyed(job: &LiveJob) -> bool {
-    job.keys.takes_new || job.keys.most.is_some()
 }

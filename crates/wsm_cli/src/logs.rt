@@ -9,7 +9,7 @@ use crate::counts::Teller;
 use crate::files::{accepted, end_of};
 use crate::metrics::Ran;
 use crate::progress::Watched;
-use crate::sources::{Bound, source_for};
+use crate::sources::{Bound, SourceFile, source_for};
 use crate::stop::Stop;
 use std::fs::{self, File};
 use std::io::{self, Eprint, Read};
@@ -83,12 +83,12 @@ impl Ready {
 pub fn run_from<R: Files + AllocGlobal + Input + Print + Eprint + Clock>(
     rt: &R,
     verified: Verified,
-    source: &String,
+    source: &SourceFile<'_>,
     job: &RunJob,
     is_looked_at: bool,
 ) -> Result<Ran, Stop> {
     let is_counted = job.metrics.is_some();
-    let bound = source_for(rt, source, &verified)?;
+    let bound = source.bound(rt, &verified)?;
     let ready = Ready { verified, bound };
     match &job.rows {
         None => Ok(ready.run(rt, rt.reader(), is_counted)?),

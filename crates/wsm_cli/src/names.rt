@@ -1,11 +1,29 @@
 //! The names of any number of keys.
 
 use crate::numbers::number_in;
+use crate::sources::SourceFile;
 use crate::stop::{Stop, WordsFault};
 use std::alloc::Global;
 use wsm::{End, SharesRefusal};
 use wsm_key_names::{KeyNames, KeyNamesRefusal};
 use wsm_words::Named;
+
+/// The file of the names: that of the words, else the one that a source names; none where the query has the keys.
+pub fn file_of_names<R: AllocGlobal>(
+    rt: &R,
+    keys: &Named,
+    source: Option<&SourceFile<'_>>,
+) -> Result<Option<String>, Stop> {
+    let named = match (&keys.file, source) {
+        (Some(file), _) => Some(String::from_str(rt.alloc(), file.as_str())?),
+        (None, Some(source)) => source.file_of_keys(rt)?,
+        (None, None) => None,
+    };
+    match named {
+        None if keys.takes_new || keys.most.is_some() => Err(Stop::Words(WordsFault::NoNames)),
+        named => Ok(named),
+    }
+}
 
 /// How many names there may be; those of the file alone where none is new.
 pub fn most_of(keys: &Named) -> Result<u32, Stop> {

@@ -9,7 +9,9 @@ use crate::files::{accepted, end_of, input_of, read};
 use crate::keyed::run_named;
 use crate::logs::run_from;
 use crate::metrics::{Ran, write_run};
-use crate::stop::{Stop, WordsFault};
+use crate::names::file_of_names;
+use crate::sources::SourceFile;
+use crate::stop::Stop;
 use std::fs::File;
 use std::io::{self, Eprint, Read};
 use std::rt::Files;
@@ -23,12 +25,13 @@ pub fn run<R: Files<File = File> + AllocGlobal + Input + Print + Eprint + Clock>
     job: &RunJob,
     is_looked_at: bool,
 ) -> Result<bool, Stop> {
-    match &job.keys.file {
-        Some(names) => run_named(rt, job, names, is_looked_at),
-        None if job.keys.takes_new || job.keys.most.is_some() => {
-            Err(Stop::Words(WordsFault::NoNames))
-        }
-        None => run_declared(rt, job, is_looked_at),
+    let source = match &job.from {
+        Some(name) => Some(SourceFile::of(rt, name)),
+        None => None,
+    };
+    match file_of_names(rt, &job.keys, source.as_ref())? {
+        Some(names) => run_named(rt, job, &names, source.as_ref(), is_looked_at),
+        None => run_declared(rt, job, source.as_ref(), is_looked_at),
     }
 }
 
@@ -36,9 +39,10 @@ pub fn run<R: Files<File = File> + AllocGlobal + Input + Print + Eprint + Clock>
 fn run_declared<R: Files<File = File> + AllocGlobal + Input + Print + Eprint + Clock>(
     rt: &R,
     job: &RunJob,
+    source: Option<&SourceFile<'_>>,
     is_looked_at: bool,
 ) -> Result<bool, Stop> {
-    let ran = match &job.from {
+    let ran = match source {
         None => run_rows(rt, job)?,
         Some(source) => {
             let verified = accepted(rt, job.program, &job.query)?;

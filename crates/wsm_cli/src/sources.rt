@@ -28,7 +28,69 @@ pub struct Bound {
     pub clocks: Option<Clocks>,
 }
 
-/// The source that a file has, for an accepted program.
+/// A source's file, which is read once. What is wrong with it is told when it is asked for.
+#[derive(Drop)]
+pub struct SourceFile<'j> {
+    name: &'j String,
+    bytes: Result<Vec<u8>, End>,
+}
+
+impl<'j> SourceFile<'j> {
+    /// The file of this name.
+    pub fn of<R: Files + AllocGlobal>(rt: &R, name: &'j String) -> SourceFile<'j> {
+        SourceFile {
+            name,
+            bytes: read(rt, name),
+        }
+    }
+
+    // Its text.
+    fn text<R: AllocGlobal>(&self, rt: &R) -> Result<&str, Stop> {
+        match &self.bytes {
+            Ok(bytes) => match str::from_utf8(bytes) {
+                Ok(text) => Ok(text),
+                Err(_) => Err(refused(rt, SourceFault::NotToml, "", "")),
+            },
+            Err(end) => Err(Stop::End(*end)),
+        }
+    }
+
+    /// What it comes to for an accepted program.
+    pub fn bound<R: Files + AllocGlobal>(&self, rt: &R, verified: &Verified) -> Result<Bound, Stop>
+        ensures { IfOk result (λ bound. AreClocks bound.clocks) }
+    {
+        let text = self.text(rt)?;
+        let description = describe(rt.alloc(), text)?;
+        bound_by(rt, self.name, text, &description, verified)
+    }
+
+    /// Its bytes, and behind them those of the file that its keys are looked up in, where it has one.
+    pub fn told<R: Files + AllocGlobal>(&self, rt: &R) -> Result<Vec<u8>, Stop> {
+        let text = self.text(rt)?;
+        let description = describe(rt.alloc(), text)?;
+        let names = names_of(rt, self.name, &description.key.naming)?;
+        let mut told = text.as_bytes().to_vec(rt.alloc())?;
+        told.extend_from_slice(&names)?;
+        Ok(told)
+    }
+
+    /// The file of the names of any number of keys that it names, which stands beside it. A source that is wrong names none.
+    pub fn file_of_keys<R: AllocGlobal>(&self, rt: &R) -> Result<Option<String>, Stop> {
+        let Ok(text) = self.text(rt) else {
+            return Ok(None);
+        };
+        match describe(rt.alloc(), text) {
+            Ok(description) => match &description.keys {
+                Some(file) => Ok(Some(path_beside(rt, self.name.as_str(), file.as_str())?)),
+                None => Ok(None),
+            },
+            Err(SourceRefusal::Memory) => Err(Stop::End(End::Memory)),
+            Err(_) => Ok(None),
+        }
+    }
+}
+
+/// What the source of a file's name comes to for an accepted program.
 pub fn source_for<R: Files + AllocGlobal>(
     rt: &R,
     name: &String,
@@ -36,23 +98,7 @@ pub fn source_for<R: Files + AllocGlobal>(
 ) -> Result<Bound, Stop>
     ensures { IfOk result (λ bound. AreClocks bound.clocks) }
 {
-    let bytes = read(rt, name)?;
-    let Ok(text) = str::from_utf8(&bytes) else {
-        return Err(refused(rt, SourceFault::NotToml, "", ""));
-    };
-    let description = describe(rt.alloc(), text)?;
-    bound_by(rt, name, text, &description, verified)
-}
-
-/// The bytes of a source's file, and behind them those of its names' file, where it has one.
-pub fn bytes_of_source<R: Files + AllocGlobal>(rt: &R, name: &String) -> Result<Vec<u8>, Stop> {
-    let mut bytes = read(rt, name)?;
-    let names = match str::from_utf8(&bytes) {
-        Ok(text) => names_of(rt, name, &describe(rt.alloc(), text)?.key.naming)?,
-        Err(_) => return Err(refused(rt, SourceFault::NotToml, "", "")),
-    };
-    bytes.extend_from_slice(&names)?;
-    Ok(bytes)
+    SourceFile::of(rt, name).bound(rt, verified)
 }
 
 // What the text of a source comes to, of which it is known what it says.
@@ -189,14 +235,20 @@ fn names_of<R: Files + AllocGlobal>(
 
 // The bytes of a file beside another one.
 fn names_beside<R: Files + AllocGlobal>(rt: &R, source: &str, file: &str) -> Result<Vec<u8>, Stop> {
+    let path = path_beside(rt, source, file)?;
+    match fs::read(rt, path.as_str()) {
+        Ok(bytes) => Ok(bytes),
+        Err(error) => Err(Stop::End(end_of(&error, End::ReadFailed))),
+    }
+}
+
+// The path of a file beside another one.
+fn path_beside<R: AllocGlobal>(rt: &R, source: &str, file: &str) -> Result<String, Stop> {
     let path = match source.rsplit_once("/") {
         Some((folder, _)) if !file.starts_with("/") => {
             format!(in rt.alloc(); "{folder}/{file}")?
         }
         _ => String::from_str(rt.alloc(), file)?,
     };
-    match fs::read(rt, path.as_str()) {
-        Ok(bytes) => Ok(bytes),
-        Err(error) => Err(Stop::End(end_of(&error, End::ReadFailed))),
-    }
+    Ok(path)
 }

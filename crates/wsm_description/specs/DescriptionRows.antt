@@ -37,6 +37,7 @@ abbrev json_says : Description
 json_says = record {
   format = Json;
   longest = 65536;
+  keys = None;
   key = record { at = codes "/customer/id"; naming = File (codes "customers.csv") (Some (codes "web")) };
   time = record { at = codes "time"; form = Local (codes "%d.%m.%Y %H:%M") (codes "Europe/Berlin") First; unit = Milliseconds };
   fields = record {
@@ -78,6 +79,7 @@ abbrev access_says : Description
 access_says = record {
   format = Access;
   longest = 1048576;
+  keys = None;
   key = record { at = codes "path"; naming = Prefixes by_path (Some (codes "site")) };
   time = record { at = codes "time"; form = Stamped (codes "%d/%b/%Y:%H:%M:%S %z"); unit = Seconds };
   fields = [];
@@ -89,10 +91,10 @@ access : described access_text ≡ Ok access_says
 unfolding toml_on_literals
 access = refl
 
--- CSV; fields come in the order of their names
+-- CSV, by the names of a file; fields come in the order of their names
 abbrev csv_text : List ℕ
 csv_text =
-    codes "format = \"csv\"\n" ++ codes "separator = \";\"\n" ++ codes "key.at = \"who\"\n"
+    codes "format = \"csv\"\n" ++ codes "separator = \";\"\n" ++ codes "keys = \"payers\"\n" ++ codes "key.at = \"who\"\n"
     ++ codes "time = { at = \"when\", form = \"seconds\" }\n" ++ codes "[fields.paid]\n" ++ codes "true = \"ja\"\n"
     ++ codes "false = \"nein\"\n" ++ codes "default = false\n" ++ codes "[fields.plan]\n" ++ codes "words = { frei = \"free\" }\n"
     ++ codes "default = \"free\"\n"
@@ -101,6 +103,7 @@ abbrev csv_says : Description
 csv_says = record {
   format = Csv 59;
   longest = 1048576;
+  keys = Some (codes "payers");
   key = record { at = codes "who"; naming = Same };
   time = record { at = codes "when"; form = Epoch Seconds; unit = Seconds };
   fields = record {
@@ -131,6 +134,7 @@ abbrev rows_says : Description
 rows_says = record {
   format = Rows;
   longest = 1000;
+  keys = None;
   key = record { at = codes "key"; naming = Same };
   time = record { at = codes "time"; form = Epoch Seconds; unit = Seconds };
   fields = [];

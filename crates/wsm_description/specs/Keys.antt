@@ -10,7 +10,7 @@ use Rattle.wsm_description.specs.Refusals.{refused}
 
 abbrev pub is_whole_key : List ℕ → Bool
 is_whole_key key =
-    bytes_eq key (codes "format") || bytes_eq key (codes "longest") || bytes_eq key (codes "separator") || bytes_eq key (codes "key")
+    bytes_eq key (codes "format") || bytes_eq key (codes "longest") || bytes_eq key (codes "separator") || bytes_eq key (codes "keys") || bytes_eq key (codes "key")
     || bytes_eq key (codes "time") || bytes_eq key (codes "fields") || bytes_eq key (codes "clock")
     || bytes_eq key (codes "identifier")
 

@@ -10,6 +10,7 @@ use Rattle.wsm_description.specs.declared.refusal.Refusal.TheVariants.{Fault}
 use Rattle.wsm_description.specs.Refusals.{on_ok}
 use Rattle.wsm_description.specs.Keys.{known_keys}
 use Rattle.wsm_description.specs.FormatPart.{format_of, longest_of}
+use Rattle.wsm_description.specs.Reading.{text_at}
 use Rattle.wsm_description.specs.ClockPart.{clock_of}
 use Rattle.wsm_description.specs.RecordPart.{record_of}
 
@@ -19,17 +20,19 @@ description_of ms =
     on_ok (known_keys section.Whole (codes "") ms) (λ _.
     on_ok (format_of ms) (λ format.
     on_ok (longest_of ms) (λ longest.
+    on_ok (text_at (codes "") (codes "keys") ms) (λ keys.
     on_ok (clock_of format ms) (λ clock.
     on_ok (record_of format ms) (λ r.
     Ok (record {
       format = format;
       longest = longest;
+      keys = keys;
       key = r.key;
       time = r.time;
       fields = r.fields;
       clock = clock;
       identifier = r.identifier;
-    }))))))
+    })))))))
 
 -- a text that is no TOML is about no key
 abbrev pub no_toml : Refusal

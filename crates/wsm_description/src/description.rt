@@ -202,6 +202,8 @@ pub struct Description {
     pub format: Format,
     /// The most bytes of a line.
     pub longest: u64,
+    /// The file of the names of any number of keys; none where the query has the keys.
+    pub keys: Option<Word>,
     pub key: KeyDescription,
     pub time: TimeDescription,
     pub fields: FieldDescriptions,

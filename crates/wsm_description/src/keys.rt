@@ -25,6 +25,7 @@ fn is_whole_key(key: &str) -> bool
     key == "format"
         || key == "longest"
         || key == "separator"
+        || key == "keys"
         || key == "key"
         || key == "time"
         || key == "fields"

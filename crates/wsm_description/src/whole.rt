@@ -8,6 +8,7 @@ use crate::clock_part::clock_of;
 use crate::description::Description;
 use crate::format_part::{format_of, longest_of};
 use crate::keys::{Section, require_known};
+use crate::reading::word_at;
 use crate::record_part::record_of;
 use crate::refusal::Refusal;
 use std::alloc::Global;
@@ -21,11 +22,13 @@ pub fn description_of(alloc: Global, table: &Table) -> Result<Description, Refus
     require_known(alloc, Section::Whole, "", table)?;
     let format = format_of(alloc, table)?;
     let longest = longest_of(alloc, table)?;
+    let keys = word_at(alloc, "", table, "keys")?;
     let clock = clock_of(alloc, format, table)?;
     let record = record_of(alloc, format, table)?;
     Ok(Description {
         format,
         longest,
+        keys,
         key: record.key,
         time: record.time,
         fields: record.fields,
