@@ -5,10 +5,12 @@ use crate::numbers::number_in;
 use crate::stop::{Stop, WordsFault};
 use std::io;
 use std::rt::Files;
+use wsm_key_memory::{bytes_of_keys, parts_of};
 use wsm_keyed_run::checked_by_places;
 use wsm_words::VerifyJob;
 
-/// Writes how many parts so many keys of a query without a KEYS clause take, how many keys a part has, and how many panes it holds.
+/// Writes how many parts so many keys of a query without a KEYS clause take, how many keys a part has, and how many panes it holds; then how
+/// many bytes all of them take at most.
 pub fn tell_parts<R: Files + AllocGlobal + Print>(
     rt: &R,
     job: &VerifyJob,
@@ -21,8 +23,9 @@ pub fn tell_parts<R: Files + AllocGlobal + Print>(
     let query = read(rt, &job.program)?;
     let verified = checked_by_places(rt.alloc(), &query)?;
     let block = verified.program().header().schema.key_count() as u64;
-    let parts = if block == 0 { 0 } else { keys.div_ceil(block) };
+    let parts = parts_of(block, keys);
     let panes = verified.costs().held;
-    let text = format!(in rt.alloc(); "parts,{parts},{block},{panes}\n")?;
+    let bytes = bytes_of_keys(&verified, keys);
+    let text = format!(in rt.alloc(); "parts,{parts},{block},{panes}\nbytes,{bytes}\n")?;
     Ok(write_all(text.as_bytes(), io::writer(rt))?)
 }

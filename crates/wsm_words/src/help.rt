@@ -227,8 +227,10 @@ With the text of `wsm run --help`, which has no KEYS clause,
 writes
 
   parts,50,1000,3000
+  bytes,165107200
 
-50000 keys are run in 50 parts of 1000, each of which holds at most 3000 panes.";
+50000 keys are run in 50 parts of 1000, each of which holds at most 3000 panes, and take at most so
+many bytes.";
 
 /// What the command `explain` does.
 pub const EXPLAIN: &str = "Lists a program, and tells whether it is accepted.";
