@@ -15,6 +15,7 @@ STATE is the folder that systemd gives the unit, else /var/lib/wsm-live. The fil
     sink                  in the place of these three the words of another command that takes the numbered lines; it has
                           DIR, LOG, QUERY and SOURCE in its environment
     patience, cut, health  those of `wsm live`, where they are said
+    keys, new_keys, most_keys  those of `wsm live` and of `sink`, where they are said; new_keys is true or false
 
 A path that doesn't begin with / is beside the file; that of table lies in STATE.
 
@@ -23,7 +24,7 @@ other, and it ends with the status of the one that ended by itself. A file `lost
 to `wsm live`, and is removed. check judges too, and prints the two commands of run.
 
 save writes a tar of all that the job has to standard output, also while it runs: the table as of one moment, what sinks
-told, the journal, and the file with its query and source. The table is copied first and the journal last, from the file
+told, the journal, and the file with its query, source and keys. The table is copied first and the journal last, from the file
 that it was in front of the table's copy: a journal only grows, or is another one, as behind a cut, and then all is copied
 anew. So it has all lines that the table has, and none was cut off that the table lacks. A table in PostgreSQL and what
 another sink keeps aren't in it: save these before.
@@ -44,9 +45,9 @@ if TYPE_CHECKING:
     from argparse import Namespace
 
 FILES, STATE = "/etc/wsm", "/var/lib/wsm-live"
-TYPES = {"log": str, "query": str, "source": str, "table": str, "columns": list, "part": str, "sink": list, "patience": int, "cut": int, "health": str}
-SAID = {str: "a text", list: "a list of texts", int: "a whole number"}
-PATHS = ("log", "query", "source", "health")
+TYPES = {"log": str, "query": str, "source": str, "table": str, "columns": list, "part": str, "sink": list, "patience": int, "cut": int, "health": str, "keys": str, "new_keys": bool, "most_keys": int}
+SAID = {str: "a text", list: "a list of texts", int: "a whole number", bool: "true or false"}
+PATHS = ("log", "query", "source", "health", "keys")
 NEEDED = ("log", "query", "source")
 TRIES = 100
 
@@ -61,7 +62,7 @@ class Job(NamedTuple):
     def live(self) -> List[str]:
         """The command that hands out the lines."""
         more = [word for key in ("patience", "cut", "health") if key in self.said for word in (f"--{key}", str(self.said[key]))]
-        return [asking.program(), "live", *more, self.folder, "--from", self.said["source"], self.said["query"], self.said["log"]]
+        return [asking.program(), "live", *more, *self.named(), self.folder, "--from", self.said["source"], self.said["query"], self.said["log"]]
 
     def sink(self) -> List[str]:
         """The command that takes them."""
@@ -69,7 +70,13 @@ class Job(NamedTuple):
             return list(self.said["sink"])
         more = ["--columns", ",".join(self.said["columns"])] if "columns" in self.said else []
         more += ["--part", self.said["part"]] if "part" in self.said else []
-        return [asking.lies_at("tools", "wsm-sink"), *more, "--live", self.folder, str(self.table()), self.said["query"]]
+        return [asking.lies_at("tools", "wsm-sink"), *more, *self.named(), "--live", self.folder, str(self.table()), self.said["query"]]
+
+    def named(self) -> List[str]:
+        """The words for any number of keys."""
+        more = ["--keys", self.said["keys"]] if "keys" in self.said else []
+        more += ["--new-keys"] * self.said.get("new_keys", False)
+        return more + (["--most-keys", str(self.said["most_keys"])] if "most_keys" in self.said else [])
 
     def table(self) -> Optional[str]:
         """The path or the URL of the table, where the job's sink is `sink`."""
@@ -87,7 +94,7 @@ def fits(value: Any, kind: type) -> bool:
     """Whether it is a text, a whole number, or some texts in a list."""
     if isinstance(value, list):
         return kind is list and bool(value) and all(isinstance(word, str) for word in value)
-    return isinstance(value, kind) and not isinstance(value, bool)
+    return isinstance(value, kind) and (kind is bool or not isinstance(value, bool))
 
 
 def faults_of(said: Dict[str, Any]) -> List[str]:
@@ -99,6 +106,8 @@ def faults_of(said: Dict[str, Any]) -> List[str]:
         faults.append("it must have one of table and sink")
     if "sink" in said and ("columns" in said or "part" in said):
         faults.append("columns and part go with table")
+    if "keys" not in said and ("new_keys" in said or "most_keys" in said):
+        faults.append("new_keys and most_keys go with keys")
     return faults
 
 
@@ -129,7 +138,7 @@ def job_of(asked: Namespace) -> Job:
 
 def judge(job: Job) -> int:
     """Has the program judge the query and the source, before anything is begun for them, and answers its status."""
-    judged = asking.asked_of(asking.program(), "run", "--from", job.said["source"], job.said["query"], os.devnull)
+    judged = asking.asked_of(asking.program(), "run", "--from", job.said["source"], *job.named(), job.said["query"], os.devnull)
     if judged.returncode:
         sys.stderr.write(judged.stderr)
     return judged.returncode
@@ -235,7 +244,7 @@ def write_saved(job: Job, room: str) -> bool:
         if not os.path.samestat(os.stat(journal), os.fstat(file.fileno())):
             return False
         with tarfile.open(fileobj=sys.stdout.buffer, mode="w|", format=tarfile.GNU_FORMAT) as tar:
-            for path in (job.file, job.said["query"], job.said["source"]):
+            for path in (job.file, *(job.said[key] for key in ("query", "source", "keys") if key in job.said)):
                 tar.add(path)
             if table is not None:
                 entry = tar.gettarinfo(table)

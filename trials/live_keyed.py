@@ -1,0 +1,153 @@
+"""Any number of keys over a log that grows: what trials/live tries of them."""
+import contextlib
+import json
+import signal
+import subprocess
+import sys
+from collections.abc import Callable, Iterator, Sequence
+from pathlib import Path
+from random import Random
+from typing import Any
+
+from comparing import differs
+from growing_log import wait
+from programs import TOOLS
+
+BEGIN = 1_790_000_000
+PATIENCE = 120
+NAMES = ["a", "b,c", 'd"', "ключ", "e" * 255]
+LIVE_WORDS = ["--keys", "names", "--new-keys"]
+QUERY = f"""FIELD n INT 0..1000;
+START {BEGIN}; SKEW 100; LATENESS 50; RECORDS 1000000000;
+SELECT COUNT(*), SUM(n)
+WINDOW FIXED 60 """ + """%s EARLY EVERY 3
+EMIT PANES;
+"""
+SOURCE = """format = "json"
+[key]
+at = "key"
+[time]
+at = "at"
+form = "seconds"
+[clock]
+at = "of"
+bound = 60
+step = 30
+"""
+PANES = "SELECT key, begins, ends, count, sum_n FROM panes ORDER BY key, begins"
+KeyedCase = Any  # a case of trials/live, with these words
+
+
+def lines_drawn(drawn: Random, number: int, since: int) -> Iterator[str]:
+    """Lines of a log. Names come among them that no line had before, more with time; in five of a hundred something is no record."""
+    for at in range(number):
+        known = [*NAMES, *(f"new {one}" for one in range((since + at) // 4))]
+        record = {"key": drawn.choice(known[-9:] + NAMES), "at": BEGIN + since + at - drawn.randrange(90), "n": drawn.randrange(1001), "of": "one"}
+        line = json.dumps(record, ensure_ascii=drawn.random() < .5)
+        yield drawn.choice([line] * 40 + [line[:20], "", "né", json.dumps({**record, "key": "none", "n": 9999})]) + "\n"
+
+
+def write_case(folder: Path, mode: str) -> None:
+    (folder / "query.wsm").write_text(QUERY % mode)
+    (folder / "source.toml").write_text(SOURCE)
+    (folder / "names").write_text("".join(f"{name}\n" for name in NAMES[:3]))
+
+
+def whole(case: KeyedCase) -> list[str]:
+    """The lines of a run over all whole lines that came, but for its end row."""
+    text = case.text[:case.text.rfind("\n") + 1]
+    ran = subprocess.run(
+        [case.program, "run", "--from", "source.toml", *LIVE_WORDS, "query.wsm"], cwd=case.folder, input=text.encode(), capture_output=True)
+    differs("the status of a run in one piece", ran.returncode, 0)
+    return ran.stdout.decode().splitlines()[:-1]
+
+
+def try_sinks(case: KeyedCase, pair_of: Callable[..., Any], answered: Callable[..., Any], told_of: Callable[..., int], drawn: Random, kills: int) -> None:
+    """`wsm live`, `tools/wsm-sink` or both are killed, while new names come: the table is that of one run in one piece."""
+    sink: Sequence[str | Path] = [TOOLS / "wsm-sink", "--live", "dir", *LIVE_WORDS, "table.db", "query.wsm"]
+    for number in range(kills):
+        pair, before = pair_of(case, *drawn.choice([(), ("--cut", "1")]), sink=sink), told_of(case)
+        text = "".join(lines_drawn(drawn, 60, 60 * number))
+        at = drawn.randrange(len(text))
+        case.grow(text[:at])
+        if drawn.random() < 0.7:
+            wait(lambda: told_of(case) > before or pair.sink.poll() is not None, 20)
+        ends = pair.kill(drawn.choice([[pair.live], [pair.sink], [pair.live, pair.sink]]))
+        differs(f"the status of what is left behind kill {number} by names", [end for end in ends if end not in (0, 6, 7, -signal.SIGTERM, -signal.SIGPIPE)], [])
+        case.grow(text[at:])
+    pair, want = pair_of(case, sink=sink), whole(case)
+    wait(lambda: told_of(case) >= len(want), PATIENCE)
+    pair.kill([pair.live, pair.sink])
+    lines = "".join(f"{line}\n" for line in want)
+    words = [TOOLS / "wsm-sink", *LIVE_WORDS, "whole.db", "query.wsm"]
+    subprocess.run(words, cwd=case.folder, input=lines.encode(), stderr=subprocess.DEVNULL)
+    differs("the amounts by names behind all kills", answered(case, PANES), answered(case, PANES, "whole.db"))
+    differs("that panes by new names came", sum(key.startswith("new ") for key, *_ in answered(case, PANES)) >= min(kills, 5), True)
+
+
+def try_others(case: KeyedCase) -> None:
+    """DIR is of the names of the file, and of how many there may be."""
+    other = (9, ["wsm: DIR is of another query, source or kind of LOG: take these again, or another DIR"])
+    for words, names, want in (
+        (["--keys", "names"], NAMES[:3], other),
+        (["--keys", "names", "--new-keys", "--most-keys", "9"], NAMES[:3], other),
+        (LIVE_WORDS, NAMES[:4], other),
+        ([], NAMES[:3], (3, ["wsm: P2 Unexpected at 1:1"])),
+        (["--new-keys"], NAMES[:3], (2, ["wsm: --new-keys and --most-keys are for --keys"])),
+        (["--keys", "names", "--most-keys", "9"], NAMES[:3], (2, ["wsm: --most-keys is for --new-keys"])),
+        (["--keys", "names", "--program"], NAMES[:3], (2, ["wsm: --keys takes the text of a query"])),
+    ):
+        (case.folder / "names").write_text("".join(f"{name}\n" for name in names))
+        ran = subprocess.run(
+            [case.program, "live", "dir", "--from", "source.toml", *words, "query.wsm", "log"],
+            cwd=case.folder, capture_output=True, text=True, timeout=PATIENCE)
+        got = (ran.returncode, ran.stderr.splitlines()[-1:])
+        differs(f"what is told of {words} by {len(names)} names", got, want)
+    (case.folder / "names").write_text("".join(f"{name}\n" for name in NAMES[:3]))
+
+
+def try_source(case: KeyedCase) -> None:
+    """A source that names the file of the names, which stands beside it; a file that the words name goes first."""
+    for folder, keys, words in (("of", "names", []), ("of", "none", ["--keys", "of/names"])):
+        (case.folder / folder).mkdir(exist_ok=True)
+        (case.folder / folder / "names").write_text("".join(f"{name}\n" for name in NAMES[:3]))
+        (case.folder / folder / "source.toml").write_text(f'keys = "{keys}"\n{SOURCE}')
+        run = [case.program, "run", "--from", f"{folder}/source.toml", *words, "--new-keys", "query.wsm", "log"]
+        ran = subprocess.run(run, cwd=case.folder, capture_output=True)
+        log = (case.folder / "log").read_bytes()
+        want = subprocess.run(
+            [case.program, "run", "--from", "source.toml", *LIVE_WORDS, "query.wsm"], cwd=case.folder, input=log, capture_output=True)
+        differs(f"what is written by the names of a source, {words}", (ran.returncode, ran.stdout), (0, want.stdout))
+
+
+def most_memory(process: int) -> int:
+    """The most memory that a process had, in kB."""
+    with contextlib.suppress(OSError, StopIteration):
+        return next(int(line.split()[1]) for line in Path(f"/proc/{process}/status").read_text().splitlines() if line.startswith("VmHWM"))
+    return 0
+
+
+def try_memory(case: KeyedCase, drawn: Random, keys: int) -> None:
+    """So many keys, two records of each, by a query that reserves less than 4 KB a key: below 300 MB, or 6 KB a key where that is more."""
+    (case.folder / "names").write_text("".join(f"meter {key}\n" for key in range(keys)))
+    (case.folder / "query.wsm").write_text((QUERY % "ACCUMULATING").replace(" EARLY EVERY 3", ""))
+    order = [*range(keys), *range(keys)]
+    drawn.shuffle(order)
+    record = '{"key": "meter %d", "at": %d, "n": 7, "of": "one"}\n'
+    case.grow("".join(record % (key, BEGIN + at * 300 // len(order)) for at, key in enumerate(order)))
+    want = len(whole(case))
+    pair = case.begin(out=subprocess.PIPE)
+    count = sum(1 for _ in zip(range(want + 1), pair.stdout))
+    memory = most_memory(pair.pid)
+    pair.kill()
+    pair.wait()
+    differs(f"how many lines are handed out of {keys} keys", count, want + 1)
+    told = subprocess.run([case.program, "verify", "--keys", str(keys), "query.wsm"], cwd=case.folder, capture_output=True, text=True).stdout
+    most = int(told.split("bytes,")[1]) // 1000
+    differs(f"the memory of {keys} keys, {memory} kB, below 300 MB", 0 < memory < 300_000, True)
+    differs(f"the memory that {keys} keys took, {memory} kB, of {most} kB that are told, beside 20,000 kB of the program", memory < most + 20_000, True)
+    print(f"{keys} keys, {len(order)} records, {want} panes: {memory} kB, of {most} kB that are told")
+
+
+if __name__ == "__main__":
+    sys.exit("trials/live tries it")
