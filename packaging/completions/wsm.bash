@@ -14,7 +14,7 @@ _wsm() {
         deal:-*) mapfile -t COMPREPLY < <(compgen -W '--keys-of --help' -- "$word") && return ;;
         keep:-*) mapfile -t COMPREPLY < <(compgen -W '--program --taken --most --help' -- "$word") && return ;;
         watermarks:-*) mapfile -t COMPREPLY < <(compgen -W '--program --agree --bound --step --forget --room --source --once --last --metrics --help' -- "$word") && return ;;
-        live:-*) mapfile -t COMPREPLY < <(compgen -W '--program --from --lost --health --patience --cut --position --help' -- "$word") && return ;;
+        live:-*) mapfile -t COMPREPLY < <(compgen -W '--program --from --keys --new-keys --most-keys --lost --health --patience --cut --position --help' -- "$word") && return ;;
         rows:-*) mapfile -t COMPREPLY < <(compgen -W '--program --help' -- "$word") && return ;;
         *:-*) mapfile -t COMPREPLY < <(compgen -W '--help' -- "$word") && return ;;
     esac
