@@ -7,9 +7,9 @@ returns-clause-stands c = λ g before was.
     on_ok_weaker c.take.result (λ turned.
     record {
       fits = record { reads = turned.reads; by = λ later. (turned.by later).fits };
-      turns = next_turns g c.take.new.self before c.args.line.now turned was.turns;
+      turns = next_turns g before c.args.line.now c.take.new.self.told.lines.items (λ later. (turned.by later).text) was.turns;
     }) (c.take.ensures g before was.fits)
 
 pub returns-clause-written : goal.returns-clause-written
 returns-clause-written c = λ g before was.
-    on_ok_weaker c.take.result (λ turned. turn_written g c.take.new.self before c.args.line.now turned) (c.take.ensures g before was.fits)
+    on_ok_weaker c.take.result (λ turned. turn_written g before c.args.line.now c.take.new.self.told.lines.items (λ later. (turned.by later).text)) (c.take.ensures g before was.fits)
