@@ -99,7 +99,10 @@ fn parts_for(
     if !are_named(clocks) {
         return Err(KeyedLogStop::KeyClocks);
     }
-    parts_of(alloc, verified)
+    match parts_of(alloc, verified) {
+        Ok(parts) => Ok(parts),
+        Err(stop) => Err(stop),
+    }
 }
 
 // Whether a source names each key by its own text.

@@ -18,3 +18,8 @@ returns-then-not-has_own_names-clause-unrun c = λ names most. sym c.has_own_nam
 
 pub returns-then-not-are_named-clause-unrun : goal.returns-then-not-are_named-clause-unrun
 returns-then-not-are_named-clause-unrun c = λ names most named. true≢false (sym (c.are_named.ensures.1 named) ∙ c.if-not-are_named.true)
+
+pub returns-in-Err-clause-unrun : goal.returns-in-Err-clause-unrun
+returns-in-Err-clause-unrun c = λ names most.
+    let k : KeyedLog = record { program = c.args.verified; source = c.args.source.now; clocks = c.args.clocks; names = names; most = most } in
+    unrun_of k c.in-Err.stop c.in-Err.ensures.unopened
