@@ -73,7 +73,7 @@ def try_sinks(case: KeyedCase, pair_of: Callable[..., Any], answered: Callable[.
         if drawn.random() < 0.7:
             wait(lambda: told_of(case) > before or pair.sink.poll() is not None, 20)
         ends = pair.kill(drawn.choice([[pair.live], [pair.sink], [pair.live, pair.sink]]))
-        differs(f"the status of what is left behind kill {number} by names", [end for end in ends if end not in (0, 6, 7, -signal.SIGTERM, -signal.SIGPIPE)], [])
+        differs(f"the status of what is left behind kill {number} by names", [end for end in ends if end not in (0, 6, 7, 128 + signal.SIGTERM, -signal.SIGTERM, -signal.SIGPIPE)], [])
         case.grow(text[at:])
     pair, want = pair_of(case, sink=sink), whole(case)
     wait(lambda: told_of(case) >= len(want), PATIENCE)
