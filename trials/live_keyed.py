@@ -127,8 +127,8 @@ def most_memory(process: int) -> int:
     return 0
 
 
-def try_memory(case: KeyedCase, drawn: Random, keys: int) -> None:
-    """So many keys, two records of each, by a query that reserves less than 4 KB a key: below 300 MB, or 6 KB a key where that is more."""
+def memory_of(case: KeyedCase, drawn: Random, keys: int) -> int:
+    """The most memory of a live run over two records of each of so many keys, in kB."""
     (case.folder / "names").write_text("".join(f"meter {key}\n" for key in range(keys)))
     (case.folder / "query.wsm").write_text((QUERY % "ACCUMULATING").replace(" EARLY EVERY 3", ""))
     order = [*range(keys), *range(keys)]
@@ -136,17 +136,24 @@ def try_memory(case: KeyedCase, drawn: Random, keys: int) -> None:
     record = '{"key": "meter %d", "at": %d, "n": 7, "of": "one"}\n'
     case.grow("".join(record % (key, BEGIN + at * 300 // len(order)) for at, key in enumerate(order)))
     want = len(whole(case))
-    pair = case.begin(out=subprocess.PIPE)
-    count = sum(1 for _ in zip(range(want + 1), pair.stdout))
-    memory = most_memory(pair.pid)
-    pair.kill()
-    pair.wait()
+    live = case.begin(out=subprocess.PIPE)
+    count = sum(1 for _ in zip(range(want + 1), live.stdout))
+    memory = most_memory(live.pid)
+    live.kill()
+    live.wait()
     differs(f"how many lines are handed out of {keys} keys", count, want + 1)
-    told = subprocess.run([case.program, "verify", "--keys", str(keys), "query.wsm"], cwd=case.folder, capture_output=True, text=True).stdout
+    return memory
+
+
+def try_memory(one: KeyedCase, many: KeyedCase, drawn: Random, keys: int) -> None:
+    """So many keys of a query that reserves less than 4 KB a key: below 300 MB, and what they take beside one key as `wsm verify` tells."""
+    least, memory = memory_of(one, drawn, 1), memory_of(many, drawn, keys)
+    words = [many.program, "verify", "--keys", str(keys), "query.wsm"]
+    told = subprocess.run(words, cwd=many.folder, capture_output=True, text=True).stdout
     most = int(told.split("bytes,")[1]) // 1000
     differs(f"the memory of {keys} keys, {memory} kB, below 300 MB", 0 < memory < 300_000, True)
-    differs(f"the memory that {keys} keys took, {memory} kB, of {most} kB that are told, beside 20,000 kB of the program", memory < most + 20_000, True)
-    print(f"{keys} keys, {len(order)} records, {want} panes: {memory} kB, of {most} kB that are told")
+    differs(f"what {keys} keys took, {memory - least} kB beside one key, within the {most} kB that are told", memory - least < most, True)
+    print(f"{keys} keys, two records of each: {memory} kB; one key: {least} kB; told are {most} kB")
 
 
 if __name__ == "__main__":
