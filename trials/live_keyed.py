@@ -7,6 +7,7 @@ import sys
 from collections.abc import Callable, Iterator, Sequence
 from pathlib import Path
 from random import Random
+from threading import Thread
 from typing import Any
 
 from comparing import differs
@@ -127,33 +128,48 @@ def most_memory(process: int) -> int:
     return 0
 
 
-def memory_of(case: KeyedCase, drawn: Random, keys: int) -> int:
-    """The most memory of a live run over two records of each of so many keys, in kB."""
+def write_keys(case: KeyedCase, drawn: Random, keys: int) -> None:
+    """So many names, a query that reserves less than 4 KB for each, and a log with two records of each."""
     (case.folder / "names").write_text("".join(f"meter {key}\n" for key in range(keys)))
     (case.folder / "query.wsm").write_text((QUERY % "ACCUMULATING").replace(" EARLY EVERY 3", ""))
     order = [*range(keys), *range(keys)]
     drawn.shuffle(order)
     record = '{"key": "meter %d", "at": %d, "n": 7, "of": "one"}\n'
     case.grow("".join(record % (key, BEGIN + at * 300 // len(order)) for at, key in enumerate(order)))
+
+
+def memory_of_run(case: KeyedCase) -> int:
+    """The most memory of a run over the log, in kB, once it has written all lines but the last."""
     want = len(whole(case))
-    live = case.begin(out=subprocess.PIPE)
+    words = [case.program, "run", "--from", "source.toml", *LIVE_WORDS, "query.wsm"]
+    run = subprocess.Popen(words, cwd=case.folder, stdin=subprocess.PIPE, stdout=subprocess.PIPE, stderr=subprocess.DEVNULL, bufsize=0)
+    feeder = Thread(target=run.stdin.write, args=((case.folder / "log").read_bytes(),))
+    feeder.start()
+    count = sum(1 for _ in zip(range(want), run.stdout))
+    memory = most_memory(run.pid)
+    feeder.join()
+    run.stdin.close()
+    differs("how many lines a run by names writes, and its status", (count, run.wait(PATIENCE)), (want, 0))
+    return memory
+
+
+def try_memory(one: KeyedCase, many: KeyedCase, drawn: Random, keys: int) -> None:
+    """So many keys take less than 300 MB of a live run, and of a run no more beside those of one key than `wsm verify` tells."""
+    write_keys(one, drawn, 1)
+    write_keys(many, drawn, keys)
+    want = len(whole(many))
+    live = many.begin(out=subprocess.PIPE)
     count = sum(1 for _ in zip(range(want + 1), live.stdout))
     memory = most_memory(live.pid)
     live.kill()
     live.wait()
     differs(f"how many lines are handed out of {keys} keys", count, want + 1)
-    return memory
-
-
-def try_memory(one: KeyedCase, many: KeyedCase, drawn: Random, keys: int) -> None:
-    """So many keys of a query that reserves less than 4 KB a key: below 300 MB, and what they take beside one key as `wsm verify` tells."""
-    least, memory = memory_of(one, drawn, 1), memory_of(many, drawn, keys)
+    differs(f"the memory of {keys} keys, {memory} kB, below 300 MB", 0 < memory < 300_000, True)
     words = [many.program, "verify", "--keys", str(keys), "query.wsm"]
     told = subprocess.run(words, cwd=many.folder, capture_output=True, text=True).stdout
-    most = int(told.split("bytes,")[1]) // 1000
-    differs(f"the memory of {keys} keys, {memory} kB, below 300 MB", 0 < memory < 300_000, True)
-    differs(f"what {keys} keys took, {memory - least} kB beside one key, within the {most} kB that are told", memory - least < most, True)
-    print(f"{keys} keys, two records of each: {memory} kB; one key: {least} kB; told are {most} kB")
+    most, grown = int(told.split("bytes,")[1]) // 1000, memory_of_run(many) - memory_of_run(one)
+    differs(f"what {keys} keys took, {grown} kB beside one key, within the {most} kB that are told", grown < most, True)
+    print(f"{keys} keys, two records of each: {memory} kB; {grown} kB more than one key in a run, told are {most} kB")
 
 
 if __name__ == "__main__":
