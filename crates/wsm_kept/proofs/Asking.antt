@@ -21,10 +21,10 @@ use Rattle.wsm_kept.specs.Pass.{AreWritten, Cuts, IsAskedCut, IsCutAs, IsLimit, 
 taken_lines : (t l own c m : ℕ) → l ≤ t → m ≡ counter ((t - l) + own) → c ≤ m → counter (l + (c - own)) ≤ t
 taken_lines t l own c m h e within = omega (arith, h, e, within)
 
-taken_beyond : (t l own m n : ℕ) → l ≤ t → m ≡ counter ((t - l) + own) → m < counter n → t < l + (n - own)
+pub taken_beyond : (t l own m n : ℕ) → l ≤ t → m ≡ counter ((t - l) + own) → m < counter n → t < l + (n - own)
 taken_beyond t l own m n h e beyond = omega (arith, h, e, beyond)
 
-none_beyond : (m n : ℕ) → m ≡ 18446744073709551615 → m < counter n → ⊥
+pub none_beyond : (m n : ℕ) → m ≡ 18446744073709551615 → m < counter n → ⊥
 none_beyond m n e beyond = omega (arith, e, beyond)
 
 upto : (taken : Option ℕ) (q : Query) (old : Head) (past : List Cells) (next : Cells) (most : ℕ) (head : Head) (at_end ended : Bool) → ended ≡ at_end
@@ -37,7 +37,7 @@ upto (Some t) q old past next most head at_end ended e lines limit within beyond
   λ stopped. taken_beyond t old.lines old.own most (line_count q (past ++ next ∷ [])) limit.0 limit.1 (beyond (sym e ∙ stopped)),
 )
 
-cuts_of : (p : Program) (pass : Pass) (past : List Cells) (next : Cells) (at_end : Bool) → MatchBool at_end (Cuts p pass past past) (Stops p pass past next) → Cuts p pass past past
+pub cuts_of : (p : Program) (pass : Pass) (past : List Cells) (next : Cells) (at_end : Bool) → MatchBool at_end (Cuts p pass past past) (Stops p pass past next) → Cuts p pass past past
 cuts_of p pass past next true h = h
 cuts_of p pass past next false h = h.cuts
 

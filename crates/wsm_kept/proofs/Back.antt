@@ -25,14 +25,14 @@ use Rattle.wsm_keep.specs.Staying.{is_event, staying}
 use Rattle.wsm_keep.proofs.Events.{stay_events}
 use Rattle.wsm_csv.specs.Lines.{cells_text}
 use Rattle.wsm_kept.specs.declared.head.Head.{Head}
-use Rattle.wsm_kept.specs.Head.{head_tag, head_text}
+use Rattle.wsm_kept.specs.Head.{IsSaid, head_cells, head_tag, head_text}
 use Rattle.wsm_kept.specs.Kept.{Cells, head_of, in_place, kept_rows, kept_text}
-use Rattle.wsm_kept.specs.Unseen.{cut_cells, head_cells}
+use Rattle.wsm_kept.specs.Unseen.{cut_cells}
 use Rattle.wsm_kept.specs.Texts.{rows_text}
 
 -- ---- rows that have cells
 
-abbrev has_cell : Cells → Bool
+abbrev pub has_cell : Cells → Bool
 has_cell [] = false
 has_cell (x ∷ xs) = true
 
@@ -104,7 +104,7 @@ kept_have q past = have-reverse (staying (event_of_cells q.declared) q (reverse 
 
 -- ---- are read back
 
-same_back : (row : Cells) → has_cell row ≡ true → read_back row ≡ row
+pub same_back : (row : Cells) → has_cell row ≡ true → read_back row ≡ row
 same_back [] e = absurd (not_true e)
 same_back (x ∷ xs) e = refl
 
@@ -162,21 +162,12 @@ plain n h = decimal_by_steps (λ n ds. IsPlain ds) one_plain more_plain n (omega
 field_plain : (text : List ℕ) → IsPlain text → field_text default_writer text ≡ text
 field_plain text h = rw h refl
 
--- the numbers of a head are some that it can say
-pub record IsSaid (h : Head) : Type 0 where
-  pub rows : h.rows ≤ 18446744073709551615
-  pub lines : h.lines ≤ 18446744073709551615
-  pub kept : h.kept ≤ 18446744073709551615
-  pub own : h.own ≤ 18446744073709551615
-  pub records : h.records ≤ 18446744073709551615
-  pub sum : h.sum ≤ 18446744073709551615
-
 fields_six : (a b c d e f : List ℕ) → IsPlain a → IsPlain b → IsPlain c → IsPlain d → IsPlain e → IsPlain f
     → fields_text default_writer (a ∷ b ∷ c ∷ d ∷ e ∷ f ∷ []) ≡ cells_text (a ∷ b ∷ c ∷ d ∷ e ∷ f ∷ [])
 unfolding fields_text
 fields_six a b c d e f ha hb hc hd he hf = rw (field_plain a ha, field_plain b hb, field_plain c hc, field_plain d hd, field_plain e he, field_plain f hf) refl
 
-head_row_text : (h : Head) → IsSaid h → row_text default_writer (head_cells h) ≡ head_text h
+pub head_row_text : (h : Head) → IsSaid h → row_text default_writer (head_cells h) ≡ head_text h
 unfolding head_text is_blank
 head_row_text h said =
     let cells : Cells = decimal h.rows ∷ decimal h.lines ∷ decimal h.kept ∷ decimal h.own ∷ decimal h.records ∷ decimal h.sum ∷ [] in

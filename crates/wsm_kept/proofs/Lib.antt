@@ -5,5 +5,7 @@ pub mod Written
 pub mod RowLists
 pub mod Passed
 pub mod Asking
+pub mod Heads
+pub mod Ending
 pub mod Unseen
 pub mod Counted

@@ -190,7 +190,7 @@ same_cells q past text cells is all =
     (subst (λ (bytes : List ℕ). AreAll (Some bytes) (in_place q past)) (sym is) (all_in_place q past))
 
 -- what a run over them comes to
-pub counts_kept : (q : Query) (past : List Cells) (text : List ℕ) → text ≡ codes "kept\n" ++ rows_text (kept_rows q past) → (r : Result Counts KeepEnd)
+pub counts_kept : {E : Type 0} (q : Query) (past : List Cells) (text : List ℕ) → text ≡ codes "kept\n" ++ rows_text (kept_rows q past) → (r : Result Counts E)
     → IfOk r (λ counts. (cells : List Cells) × AreAll (Some text) cells × (counts ≡ counts_of q (rows_of q cells))) → IfOk r (λ counts. counts ≡ counts_of q (rows_of q (in_place q past)))
 counts_kept q past text is (Ok counts) (cells, all, same) = same ∙ ap (λ (rows : List Cells). counts_of q (rows_of q rows)) (same_cells q past text cells is all)
 counts_kept q past text is (Err end) h = tt

@@ -8,4 +8,5 @@ pub mod Stay
 pub mod Own
 pub mod Pass
 pub mod Unseen
+pub mod Ends
 pub mod Over

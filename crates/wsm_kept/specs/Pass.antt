@@ -96,11 +96,15 @@ pub record IsCutAs (q : Query) (asked : Asked) (old : Head) (past : List Cells) 
   pub there : old.kept ≤ counter (length past)
   pub are_written : AreWritten asked at_end cut.head
 
+-- with the next row more lines are written of all than so many
+abbrev pub GoesBeyond : ℕ → Query → Head → List Cells → Cells → Type 0
+GoesBeyond taken q old past next = taken < old.lines + (line_count q (past ++ next ∷ []) - old.own)
+
 -- all rows are cut; or as many as wrote no more lines than were taken, and the next one would
 abbrev pub IsUpTo : Option ℕ → Query → Head → List Cells → Cells → Head → Bool → Type 0
 IsUpTo None q old past next head at_end = at_end ≡ true
 IsUpTo (Some taken) q old past next head at_end =
-    (head.lines ≤ taken) × (at_end ≡ false → taken < old.lines + (line_count q (past ++ next ∷ []) - old.own))
+    (head.lines ≤ taken) × (at_end ≡ false → GoesBeyond taken q old past next)
 
 -- rows are cut as was asked: those in front of them were cut for the same query, and are there as their head says
 pub record IsAskedCut {R : Type 0} (remaining : R → Option (List ℕ)) (known : Option (List ℕ)) (q : Query) (asked : Asked) (rows : Rows R) (made : Cut) : Type 0 where

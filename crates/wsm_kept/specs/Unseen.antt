@@ -1,6 +1,5 @@
 -- The cut is unseen: what a run writes behind what stands in the place of rows is what it writes behind these.
-use Rattle.std.specs.Prelude.{◌≡◌, ℕ, ◌+◌, ◌≤◌, List, [], ◌∷◌, ◌++◌, Some, length, map, ℤ}
-use Rattle.std.specs.Fmt.{decimal}
+use Rattle.std.specs.Prelude.{◌≡◌, ℕ, ◌+◌, ◌≤◌, List, ◌∷◌, ◌++◌, Some, length, map, ℤ}
 use Rattle.csv.specs.Reading.{AreRecords, default_config}
 use Rattle.csv.specs.declared.parser.State.TheVariants as st
 use Rattle.wsm_semantics.specs.Query.{Query}
@@ -10,13 +9,9 @@ use Rattle.wsm_semantics.specs.Text.{lines_text}
 use Rattle.wsm_csv.specs.Records.{AreAll}
 use Rattle.wsm_keep.specs.GoesOn.{moved}
 use Rattle.wsm_kept.specs.declared.head.Head.{Head}
-use Rattle.wsm_kept.specs.Head.{head_tag}
+use Rattle.wsm_kept.specs.Head.{head_cells}
 use Rattle.wsm_kept.specs.Kept.{Cells, counts_of, head_of, in_place, kept_rows, kept_text, rows_of}
 use Rattle.wsm_kept.specs.Texts.{rows_text}
-
--- the cells of a head
-abbrev pub head_cells : Head → Cells
-head_cells h = head_tag ∷ decimal h.rows ∷ decimal h.lines ∷ decimal h.kept ∷ decimal h.own ∷ decimal h.records ∷ decimal h.sum ∷ []
 
 -- what is read of what stands in the place of rows that followed on a head
 abbrev pub cut_cells : Query → ℕ → Head → List Cells → List Cells

@@ -15,7 +15,8 @@ pub struct Asked {
 }
 
 impl Asked {
-    ghost use Rattle.std.specs.Prelude.{◌≡◌, true, OnOk};
+    ghost use Rattle.std.specs.Prelude.{◌≡◌, true, IfErr, OnOk};
+    ghost use Rattle.wsm_kept.specs.Ends.{CheckEnds};
     ghost use Rattle.wsm_kept.specs.Pass.{AreWritten};
 
     /// Whether rows that were cut with this head are as many as were asked for.
@@ -24,7 +25,8 @@ impl Asked {
     ///
     /// [`KeepEnd::FewerLines`] where all rows were, and they write fewer lines than were taken.
     pub fn check(&self, head: &Head, at_end: bool) -> Result<(), KeepEnd>
-        ensures { OnOk result (AreWritten self.now at_end head.now) }
+        ensures written { OnOk result (AreWritten self.now at_end head.now) }
+        ensures ends { IfErr result (CheckEnds self.now at_end head.now) }
     {
         match self.taken {
             Some(taken) if self.is_whole && at_end && head.lines < taken => {

@@ -1,10 +1,11 @@
 //! Cutting rows in one pass.
 
-ghost use Rattle.std.specs.Prelude.{◌≡◌, ◌∷◌, ◌++◌, ℕ, List, [], Option, true, IfOk};
+ghost use Rattle.std.specs.Prelude.{◌≡◌, ◌∷◌, ◌++◌, ℕ, List, [], Option, true, IfErr, IfOk};
 ghost use Rattle.wsm_program.specs.Program.{Program};
 ghost use Rattle.wsm_machine.specs.Meaning.{query_of};
 ghost use Rattle.wsm_csv.specs.Rows.{Follows};
 ghost use Rattle.wsm_cut.specs.Cutter.{IsReady};
+ghost use Rattle.wsm_kept.specs.Ends.{EndsBy};
 ghost use Rattle.wsm_kept.specs.Pass.{Fits, IsAskedCut, Passes};
 
 use crate::asked::Asked;
@@ -32,8 +33,10 @@ pub fn cut_rows<R: Read + Drop>(
     asked: Asked,
     rows: &mut Rows<R>,
 ) -> Result<Cut, KeepEnd>
-    ensures { (known : Option (List ℕ)) → Follows R.remaining known [] rows.old →
+    ensures cut { (known : Option (List ℕ)) → Follows R.remaining known [] rows.old →
         IfOk result (IsAskedCut R.remaining known (query_of verified) asked rows.new) }
+    ensures ends { (known : Option (List ℕ)) → Follows R.remaining known [] rows.old →
+        IfErr result (EndsBy R.remaining known (query_of verified) asked rows.new) }
 {
     let mut pass = Pass::open(alloc, verified, asked)?;
     let at_end = take_rows(alloc, &mut pass, rows)?;
@@ -51,6 +54,8 @@ fn take_rows<R: Read + Drop>(
     ensures ready { IsReady pass.new.cutter }
     ensures passes { (known : Option (List ℕ)) (p : Program) → Follows R.remaining known [] rows.old → Fits p pass.old [] →
         IfOk result (Passes R.remaining known p pass.new rows.new) }
+    ensures ends { (known : Option (List ℕ)) (p : Program) → Follows R.remaining known [] rows.old → Fits p pass.old [] →
+        IfErr result (EndsBy R.remaining known (query_of p) pass.old.asked rows.new) }
 {
     while rows.advance()? {
         if !pass.take(alloc, rows.row())? {

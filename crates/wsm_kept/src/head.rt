@@ -1,10 +1,11 @@
 //! The row in front of rows that were cut.
 
-ghost use Rattle.std.specs.Prelude.{◌≡◌, ◌++◌, ◌∷◌, true, option_map, IfOk, OnOk};
+ghost use Rattle.std.specs.Prelude.{◌≡◌, ◌≢◌, ◌≤◌, ◌++◌, ◌∷◌, ℕ, Some, true, false, option_map, slice_get, IfOk, OnOk};
 ghost use Rattle.std.specs.Fmt.{decimal};
 ghost use Rattle.csv.specs.Records.{fields_of};
 ghost use Rattle.csv.specs.Writing.{default_writer, row_text};
-ghost use Rattle.wsm_kept.specs.Head.{head_text, is_tag, is_tagged};
+ghost use Rattle.wsm_kept.specs.declared.head.Head.{Head as AnyHead};
+ghost use Rattle.wsm_kept.specs.Head.{IsSaid, head_cells, head_text, is_tag, is_tagged};
 
 use crate::counts::Counts;
 use crate::end::KeepEnd;
@@ -33,11 +34,14 @@ pub struct Head {
 }
 
 impl Head {
-    ghost use Rattle.std.specs.Prelude.{◌≡◌, ◌++◌, IfOk, OnOk};
+    ghost use Rattle.std.specs.Prelude.{◌≡◌, ◌++◌, IfErr, IfOk, OnOk};
     ghost use Rattle.csv.specs.Records.{fields_of};
+    ghost use Rattle.csv.specs.Writing.{default_writer, row_text};
     ghost use Rattle.std.specs.Prelude.{unsigned_abs};
     ghost use Rattle.wsm_semantics.specs.Query.{Query};
-    ghost use Rattle.wsm_kept.specs.Head.{Says, head_text, no_head};
+    ghost use Rattle.wsm_kept.specs.declared.head.Head.{Head as AnyHead};
+    ghost use Rattle.wsm_kept.specs.Ends.{HeadEnds};
+    ghost use Rattle.wsm_kept.specs.Head.{IsSaid, Says, head_text, no_head};
     ghost use Rattle.wsm_kept.specs.Kept.{head_by};
 
     /// That of rows of which none is gone.
@@ -60,7 +64,9 @@ impl Head {
     ///
     /// [`KeepEnd::BadHead`] where it begins as a head does and isn't written as one.
     pub fn of(alloc: Global, row: &ByteRecord) -> Result<Head, KeepEnd>
-        ensures { IfOk result (Says (fields_of row.now)) }
+        ensures says { IfOk result (Says (fields_of row.now)) }
+        ensures read { (h : AnyHead) → IsSaid h → row_text default_writer (fields_of row.now) ≡ head_text h → IfOk result (λ head. head ≡ h) }
+        ensures ends { IfErr result (HeadEnds (fields_of row.now)) }
     {
         if !begins_as_head(row) {
             return Ok(Head::none());
@@ -135,7 +141,8 @@ fn is_tag(cell: Option<&[u8]>) -> bool
 
 // Whether a row is written as a head is.
 fn is_written(alloc: Global, row: &ByteRecord, head: &Head) -> Result<bool, AllocError>
-    ensures { IfOk result (λ is. is ≡ true → row_text default_writer (fields_of row.now) ≡ head_text head.now) }
+    ensures written { IfOk result (λ is. is ≡ true → row_text default_writer (fields_of row.now) ≡ head_text head.now) }
+    ensures other { IfOk result (λ is. is ≡ false → row_text default_writer (fields_of row.now) ≢ head_text head.now) }
 {
     let text = text_of(alloc, row)?;
     let mut own = Vec::new(alloc);
@@ -143,8 +150,10 @@ fn is_written(alloc: Global, row: &ByteRecord, head: &Head) -> Result<bool, Allo
     Ok(text.as_slice() == own.as_slice())
 }
 
-// The numbers in the cells of a row behind the first, as far as they are some.
-fn numbers_of(row: &ByteRecord) -> Head {
+// The numbers in the cells of a row behind the first: those of a head, of a row that is written as one.
+fn numbers_of(row: &ByteRecord) -> Head
+    ensures { (h : AnyHead) → IsSaid h → fields_of row.now ≡ head_cells h → result ≡ h }
+{
     Head {
         rows: number_at(row, 1),
         lines: number_at(row, 2),
@@ -155,7 +164,9 @@ fn numbers_of(row: &ByteRecord) -> Head {
     }
 }
 
-fn number_at(row: &ByteRecord, place: usize) -> u64 {
+fn number_at(row: &ByteRecord, place: usize) -> u64
+    ensures { (n : ℕ) → n ≤ 18446744073709551615 → slice_get (fields_of row.now) place ≡ Some (decimal n) → result ≡ n }
+{
     match row.get(place) {
         Some(cell) => number_of(cell),
         None => 0,
@@ -163,12 +174,11 @@ fn number_at(row: &ByteRecord, place: usize) -> u64 {
 }
 
 // The number that digits say.
-fn number_of(cell: &[u8]) -> u64 {
-    let mut number = 0u64;
-    for digit in cell {
-        number = number
-            .saturating_mul(10)
-            .saturating_add(u64::from(digit.saturating_sub(b'0')));
+fn number_of(cell: &[u8]) -> u64
+    ensures { (n : ℕ) → n ≤ 18446744073709551615 → cell.now ≡ decimal n → result ≡ n }
+{
+    match str::from_utf8(cell) {
+        Ok(text) => text.parse::<u64>().unwrap_or(0),
+        Err(_) => 0,
     }
-    number
 }

@@ -29,7 +29,8 @@ pub fn cut_over<R: Read + Drop, D: Device>(
 ) -> Result<Head, KeepEnd>
     requires { D.has_failed out.old ≡ false }
     ensures written { IfOk result (CutWritten R.remaining (R.remaining reader) (query_of verified) asked (D.taken out.old) (D.taken out.new)) }
-    ensures begun { IfErr result (λ _. CutBegun R.remaining (R.remaining reader) (query_of verified) asked (D.taken out.old) (D.taken out.new)) }
+    ensures begun { IfErr result
+        (CutBegun R.remaining (R.remaining reader) (query_of verified) asked (D.taken out.old) (D.taken out.new) (D.has_failed out.new)) }
     ensures flushed { OnOk result (D.is_flushed out.new ≡ true) }
 {
     let mut rows = Rows::new(alloc, reader);

@@ -17,7 +17,7 @@ ghost use Rattle.wsm_kept.specs.Texts.{rows_text};
 use crate::counts::Counts;
 use crate::end::KeepEnd;
 use crate::run::Run;
-use std::alloc::Global;
+use std::alloc::{AllocError, Global};
 use std::io::Read;
 use wsm_csv::Rows;
 use wsm_keep::Remains;
@@ -32,7 +32,7 @@ pub fn own_counts(
     verified: Verified,
     remains: Remains,
     text: &[u8],
-) -> Result<Counts, KeepEnd>
+) -> Result<Counts, AllocError>
     ensures { (past : List Cells) → let q = query_of verified in HasStaying verified past remains → text.now ≡ codes "kept\n" ++ rows_text (kept_rows q past) →
         IfOk result (λ counts. counts ≡ counts_of q (rows_of q (in_place q past))) }
 {
@@ -74,7 +74,7 @@ fn counted(remains: &Remains) -> Counts
 }
 
 // What a run over the rows of a text comes to.
-fn counts_over(alloc: Global, verified: Verified, text: &[u8]) -> Result<Counts, KeepEnd>
+fn counts_over(alloc: Global, verified: Verified, text: &[u8]) -> Result<Counts, AllocError>
     ensures { IfOk result (λ counts. (cells : List Cells) × AreAll (Some text.now) cells
         × (counts ≡ counts_of (query_of verified) (rows_of (query_of verified) cells))) }
 {
@@ -83,13 +83,16 @@ fn counts_over(alloc: Global, verified: Verified, text: &[u8]) -> Result<Counts,
 }
 
 // Has a run take the rows of a text, and tells what they come to.
-fn count_rows(alloc: Global, run: &mut Run, text: &[u8]) -> Result<Counts, KeepEnd>
+fn count_rows(alloc: Global, run: &mut Run, text: &[u8]) -> Result<Counts, AllocError>
     ensures { (p : Program) → RunFits p run.old [] →
         IfOk result (λ counts. (cells : List Cells) × AreAll (Some text.now) cells × (counts ≡ counts_of (query_of p) (rows_of (query_of p) cells))) }
 {
     let mut rows = Rows::new(alloc, text);
-    take_all(run, &mut rows)?;
-    Ok(run.counts())
+    match take_all(run, &mut rows) {
+        Ok(()) => Ok(run.counts()),
+        // No read of a text fails: memory was refused.
+        Err(_) => Err(AllocError),
+    }
 }
 
 // Takes the turn of each row.

@@ -1,8 +1,10 @@
 //! The pass over rows that are cut.
 
-ghost use Rattle.std.specs.Prelude.{◌≡◌, List, IfOk};
+ghost use Rattle.std.specs.Prelude.{◌≡◌, List, IfErr, IfOk};
 ghost use Rattle.csv.specs.Records.{fields_of};
 ghost use Rattle.wsm_semantics.specs.Query.{Query};
+ghost use Rattle.wsm_kept.specs.declared.end.KeepEnd.TheVariants.{Gone};
+ghost use Rattle.wsm_kept.specs.Ends.{AreGone, FinishEnds, FirstEnds};
 ghost use Rattle.wsm_kept.specs.Head.{Says};
 ghost use Rattle.wsm_kept.specs.Kept.{Cells, counts_of, rows_of};
 ghost use Rattle.wsm_kept.specs.Pass.{IsCutAs, IsLimit, IsOf};
@@ -18,7 +20,7 @@ use crate::row_text::put_text;
 use crate::run::Run;
 use crate::stay::{Stay, stay_of};
 use csv::ByteRecord;
-use std::alloc::Global;
+use std::alloc::{AllocError, Global};
 use wsm_cut::Cutter;
 use wsm_keep::Judged;
 use wsm_rules::Verified;
@@ -57,7 +59,7 @@ impl Drop for Pass {
 }
 
 impl Pass {
-    ghost use Rattle.std.specs.Prelude.{◌≡◌, ◌∷◌, ◌++◌, List, [], Ok, IfOk, OnOk, false, true};
+    ghost use Rattle.std.specs.Prelude.{◌≡◌, ◌≢◌, ◌<◌, ◌∷◌, ◌++◌, List, [], Ok, IfErr, IfOk, OnOk, false, true};
     ghost use Rattle.csv.specs.Records.{fields_of};
     ghost use Rattle.wsm_program.specs.Program.{Program};
     ghost use Rattle.wsm_machine.specs.Meaning.{query_of};
@@ -68,6 +70,8 @@ impl Pass {
     ghost use Rattle.wsm_semantics.specs.Relation.{turn_rows};
     ghost use Rattle.wsm_keep.specs.Holds.{Written, read};
     ghost use Rattle.wsm_keep.specs.Staying.{events_in};
+    ghost use Rattle.wsm_kept.specs.declared.end.KeepEnd.TheVariants.{Memory, OtherRows};
+    ghost use Rattle.wsm_kept.specs.Ends.{BeginEnds, FinishEnds, TakeEnds};
     ghost use Rattle.wsm_kept.specs.Pass.{Cuts, Fits, IsCutAs, Keeps, KeepsWritten, Taken};
     ghost use Rattle.wsm_kept.specs.Run.{HasRows, IsTurn, Tells};
 
@@ -76,6 +80,7 @@ impl Pass {
         ensures ready { IfOk result (λ pass. cutter.IsReady pass.cutter) }
         ensures asked { IfOk result (λ pass. pass.asked ≡ asked) }
         ensures fits { IfOk result (λ pass. Fits verified pass []) }
+        ensures memory { IfErr result (λ end. end ≡ Memory) }
     {
         let head = Head::none();
         let most = most_of(asked.taken, &head)?;
@@ -100,6 +105,7 @@ impl Pass {
         ensures asked { self.new.asked ≡ self.old.asked }
         ensures ready { cutter.IsReady self.new.cutter }
         ensures taken { (p : Program) (past : List Cells) → Fits p self.old past → IfOk result (Taken p self.new past (fields_of row.now)) }
+        ensures ends { (p : Program) (past : List Cells) → Fits p self.old past → IfErr result (TakeEnds (query_of p) self.old.asked past (fields_of row.now)) }
     {
         self.begin(alloc, row)?;
         let told = self.run.take(row)?;
@@ -117,6 +123,8 @@ impl Pass {
         ensures cutter { self.new.cutter ≡ self.old.cutter }
         ensures counted { self.new.is_counted ≡ self.old.is_counted }
         ensures begun { (p : Program) (past : List Cells) → Fits p self.old past → OnOk result (Cuts p self.new past (past ++ fields_of row.now ∷ [])) }
+        ensures ends { (p : Program) (past : List Cells) → Fits p self.old past →
+            IfErr result (λ end. (past ≡ []) × BeginEnds self.old.asked (fields_of row.now) end) }
     {
         if self.counts.rows == 0 {
             let head = head_for(alloc, self.asked.sum, row)?;
@@ -128,8 +136,9 @@ impl Pass {
 
     // Ends the pass. The rows that the first one speaks of were there.
     fn stop(&self) -> Result<bool, KeepEnd>
-        ensures { (p : Program) (past : List Cells) (row : Cells) → Cuts p self.now past (past ++ row ∷ []) →
+        ensures stops { (p : Program) (past : List Cells) (row : Cells) → Cuts p self.now past (past ++ row ∷ []) →
             IfOk result (λ is_cut. (is_cut ≡ false) × Cuts p self.now past past) }
+        ensures ends { IfErr result (λ end. (end ≡ OtherRows) × (self.now.counts.rows < self.now.head.kept)) }
     {
         if self.counts.rows < self.head.kept {
             return Err(KeepEnd::OtherRows);
@@ -138,7 +147,7 @@ impl Pass {
     }
 
     // Keeps a row of which this is told, if it may stay.
-    fn keep(&mut self, row: &ByteRecord, told: Option<Judged>) -> Result<(), KeepEnd>
+    fn keep(&mut self, row: &ByteRecord, told: Option<Judged>) -> Result<(), AllocError>
         requires { cutter.IsReady self.old.cutter }
         ensures ready { cutter.IsReady self.new.cutter }
         ensures cutter { (p : Program) (past : List Cells) →
@@ -154,7 +163,7 @@ impl Pass {
     }
 
     // Keeps the row of an event that does this, if it may stay.
-    fn keep_event(&mut self, row: &ByteRecord, judged: Judged) -> Result<(), KeepEnd>
+    fn keep_event(&mut self, row: &ByteRecord, judged: Judged) -> Result<(), AllocError>
         requires { cutter.IsReady self.old.cutter }
         ensures ready { cutter.IsReady self.new.cutter }
         ensures cutter { (p : Program) (past : List Cells) →
@@ -174,7 +183,7 @@ impl Pass {
     }
 
     // Tells the cutter of the rows that the last turn wrote, where they are counted.
-    fn tell_rows(&mut self) -> Result<(), KeepEnd>
+    fn tell_rows(&mut self) -> Result<(), AllocError>
         requires { cutter.IsReady self.old.cutter }
         ensures ready { cutter.IsReady self.new.cutter }
         ensures told { (p : Program) (before : List Written) (e : AnyEvent) → self.old.run.engine.rows ≡ turn_rows (query_of p) (events_in read before) e →
@@ -192,6 +201,8 @@ impl Pass {
         ensures counts { self.new ≡ record self.old { counts = self.old.run.counts } }
         ensures cut { IfOk result (λ is_cut. is_cut ≡ true) }
         ensures own { OnOk result (self.old.run.counts.rows ≡ self.old.head.kept → self.old.run.counts.lines ≡ self.old.head.own) }
+        ensures ends { IfErr result (λ end. (end ≡ OtherRows) × (self.old.run.counts.rows ≡ self.old.head.kept)
+            × (self.old.run.counts.lines ≢ self.old.head.own)) }
     {
         self.counts = self.run.counts();
         if self.counts.rows == self.head.kept && self.counts.lines != self.head.own {
@@ -203,7 +214,9 @@ impl Pass {
     /// What stands in the place of the rows that are cut.
     pub fn finish(self, alloc: Global, at_end: bool) -> Result<Cut, KeepEnd>
         requires { cutter.IsReady self.cutter }
-        ensures { (p : Program) (past all : List Cells) → Cuts p self past all → IfOk result (IsCutAs (query_of p) self.asked self.head past at_end) }
+        ensures cut { (p : Program) (past all : List Cells) → Cuts p self past all → IfOk result (IsCutAs (query_of p) self.asked self.head past at_end) }
+        ensures ends { (p : Program) (past all : List Cells) → Cuts p self past all →
+            IfErr result (FinishEnds (query_of p) self.asked self.head past at_end) }
     {
         let Pass {
             run,
@@ -229,7 +242,10 @@ fn cut_by(
     stay: &Stay,
     at_end: bool,
 ) -> Result<Cut, KeepEnd>
-    ensures { (q : Query) (past : List Cells) → counts ≡ counts_of q (rows_of q past) → IsStay q past stay.now → IfOk result (IsCutAs q asked old past at_end) }
+    ensures cut { (q : Query) (past : List Cells) → counts ≡ counts_of q (rows_of q past) → IsStay q past stay.now →
+        IfOk result (IsCutAs q asked old past at_end) }
+    ensures ends { (q : Query) (past : List Cells) → counts ≡ counts_of q (rows_of q past) → IsStay q past stay.now →
+        IfErr result (FinishEnds q asked old past at_end) }
 {
     if counts.rows < old.kept {
         return Err(KeepEnd::OtherRows);
@@ -247,6 +263,7 @@ fn cut_by(
 fn head_for(alloc: Global, sum: u64, row: &ByteRecord) -> Result<Head, KeepEnd>
     ensures says { IfOk result (Says (fields_of row.now)) }
     ensures of { IfOk result (IsOf sum) }
+    ensures ends { IfErr result (FirstEnds sum (fields_of row.now)) }
 {
     let head = Head::of(alloc, row)?;
     if head == Head::none() {
@@ -263,7 +280,8 @@ fn head_for(alloc: Global, sum: u64, row: &ByteRecord) -> Result<Head, KeepEnd>
 
 // How many lines rows with this head may write, of which so many of all were taken.
 fn most_of(taken: Option<u64>, head: &Head) -> Result<u64, KeepEnd>
-    ensures { IfOk result (IsLimit taken head.now) }
+    ensures limit { IfOk result (IsLimit taken head.now) }
+    ensures gone { IfErr result (λ end. (end ≡ Gone) × AreGone taken head.now) }
 {
     let Some(taken) = taken else {
         return Ok(u64::MAX);

@@ -11,7 +11,6 @@ ghost use Rattle.wsm_kept.specs.Pass.{Keeps};
 ghost use Rattle.wsm_kept.specs.Stay.{IsStay};
 
 use crate::counts::Counts;
-use crate::end::KeepEnd;
 use crate::head::Head;
 use crate::own::own_counts;
 use std::alloc::{AllocError, Global};
@@ -51,7 +50,7 @@ impl Stay {
 }
 
 /// The rows that a program's cutter says stay.
-pub fn stay_of(alloc: Global, verified: Verified, cutter: Cutter) -> Result<Stay, KeepEnd>
+pub fn stay_of(alloc: Global, verified: Verified, cutter: Cutter) -> Result<Stay, AllocError>
     requires { IsReady cutter }
     ensures { (past : List Cells) → Keeps verified (writes_sessions verified.header) cutter (written (query_of verified) past) →
         IfOk result (IsStay (query_of verified) past) }

@@ -6,8 +6,10 @@ ghost use Rattle.csv.specs.Records.{fields_of};
 ghost use Rattle.csv.specs.Writing.{default_writer, row_text};
 ghost use Rattle.wsm_semantics.specs.Query.{Query};
 ghost use Rattle.wsm_csv.specs.Device.{TakesPart};
-ghost use Rattle.wsm_csv.specs.Rows.{Follows, cells_of};
+ghost use Rattle.wsm_csv.specs.Rows.{Follows, cells_of, error_of};
+ghost use Rattle.csv.specs.declared.error.Error.{Error as CsvError};
 ghost use Rattle.wsm_kept.specs.Kept.{Cells};
+ghost use Rattle.wsm_kept.specs.Ends.{WriteEnds};
 ghost use Rattle.wsm_kept.specs.Cut.{AreRead, Follow, FollowInPart, IsBegun, IsCut, IsWritten};
 
 use crate::cut::Cut;
@@ -35,6 +37,7 @@ pub fn write_cut<R: Read + Drop, D: Device>(
     ensures begun { (known : Option (List ℕ)) (q : Query) (sum : ℕ) (is : IsCut R.remaining known q sum rows.old cut.now) →
         OnErr result (IsBegun known q sum is.past is.old (D.taken out.old) (D.taken out.new)) }
     ensures flushed { OnOk result (D.is_flushed out.new ≡ true) }
+    ensures ends { IfErr result (WriteEnds (D.has_failed out.new) (error_of rows.new)) }
 {
     write_out(out, &cut.text)?;
     write_rest(alloc, cut.at_end, rows, out)?;
@@ -54,6 +57,7 @@ fn write_rest<R: Read + Drop, D: Device>(
     ensures begun { (known : Option (List ℕ)) (past : List Cells) → AreRead R.remaining known past rows.old at_end →
         OnErr result (FollowInPart known past (D.taken out.old) (D.taken out.new)) }
     ensures works { OnOk result (D.has_failed out.new ≡ false) }
+    ensures ends { IfErr result (WriteEnds (D.has_failed out.new) (error_of rows.new)) }
 {
     if at_end {
         Ok(())
@@ -74,6 +78,7 @@ fn write_behind<R: Read + Drop, D: Device>(
     ensures begun { (known : Option (List ℕ)) (past : List Cells) → Follows R.remaining known (past ++ cells_of rows.old ∷ []) rows.old →
         OnErr result (FollowInPart known past (D.taken out.old) (D.taken out.new)) }
     ensures works { OnOk result (D.has_failed out.new ≡ false) }
+    ensures ends { IfErr result (WriteEnds (D.has_failed out.new) (error_of rows.new)) }
 {
     hand_on(alloc, rows.row(), out)?;
     write_others(alloc, rows, out)
@@ -91,6 +96,7 @@ fn write_others<R: Read + Drop, D: Device>(
     ensures begun { (known : Option (List ℕ)) (past : List Cells) → Follows R.remaining known past rows.old →
         OnErr result (FollowInPart known past (D.taken out.old) (D.taken out.new)) }
     ensures works { OnOk result (D.has_failed out.new ≡ false) }
+    ensures ends { IfErr result (WriteEnds (D.has_failed out.new) (error_of rows.new)) }
 {
     while rows.advance()? {
         hand_on(alloc, rows.row(), out)?;
@@ -104,6 +110,7 @@ fn hand_on<D: Device>(alloc: Global, row: &ByteRecord, out: &mut D) -> Result<()
     ensures all { OnOk result (Appends (D.taken out.old) (D.taken out.new) (row_text default_writer (fields_of row.now))) }
     ensures works { OnOk result (D.has_failed out.new ≡ false) }
     ensures part { OnErr result (TakesPart (D.taken out.old) (D.taken out.new) (row_text default_writer (fields_of row.now))) }
+    ensures ends { (said : Option CsvError) → IfErr result (WriteEnds (D.has_failed out.new) said) }
 {
     let text = text_of(alloc, row)?;
     Ok(write_out(out, &text)?)

@@ -7,6 +7,8 @@ use Rattle.wsm_csv.specs.Rows.{cells_of}
 use Rattle.wsm_csv.proofs.RowsLemmas.{Follows-first}
 use Rattle.wsm_kept.specs.Kept.{Cells}
 use Rattle.wsm_kept.proofs.Written.{on_err, first_behind, first_in_part, others_in_part}
+use Rattle.std.proofs.lemmas.Result.{err_from_is_err_and}
+use Rattle.wsm_csv.specs.Rows.{error_of}
 use Rattle.wsm_kept.proofs.write.write_behind.Goals as goal
 
 pub returns-in_err-hand_on-clause-begun : goal.returns-in_err-hand_on-clause-begun
@@ -34,3 +36,8 @@ returns-clause-begun g c = λ known past follows.
     let new = g.D.Device.taken c.write_others.new.out in
     let text = subst (λ (f : Cells). Appends old mid (row_text default_writer f)) c.row.ensures c.in_ok-hand_on.ensures.all in
     on_err_weaker c.write_others.result (others_in_part known past row old mid new text) (c.write_others.ensures.begun known (past ++ row ∷ []) follows)
+
+pub returns-in_err-hand_on-clause-ends : goal.returns-in_err-hand_on-clause-ends
+returns-in_err-hand_on-clause-ends g c =
+    let e = err_from_is_err_and c.from_residual.result c.from_residual.ensures.1 in
+    rw (e.1, e.2) (c.in_err-hand_on.ensures.ends (error_of c.args.rows.now))

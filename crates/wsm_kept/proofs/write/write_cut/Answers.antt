@@ -2,6 +2,7 @@ use Rattle.std.proofs.Common.{ℕ, List, subst}
 use Rattle.std.specs.Io.KnownBytes.{Appends}
 use Rattle.wsm_csv.specs.Device.{TakesPart}
 use Rattle.wsm_kept.proofs.Written.{on_err, begun_first, begun_behind, begun_whole, is_written}
+use Rattle.std.proofs.lemmas.Result.{err_from_is_err_and}
 use Rattle.wsm_kept.proofs.write.write_cut.Goals as goal
 
 pub returns-in_err-write_out-clause-begun : goal.returns-in_err-write_out-clause-begun
@@ -38,3 +39,18 @@ returns-clause-written g c = λ known q sum is.
     let new = g.D.Device.taken c.flush.new.self in
     is_written g.R.Read.remaining known q sum c.args.rows.now c.args.cut.now is old mid last new (subst (λ (t : List ℕ). Appends old mid t) c.deref.ensures.value c.in_ok-write_out.ensures.all)
     (c.in_ok-write_rest.ensures.written known is.past is.read) c.in_ok-flush.ensures.kept
+
+pub returns-in_err-write_out-clause-ends : goal.returns-in_err-write_out-clause-ends
+returns-in_err-write_out-clause-ends g c =
+    let e = err_from_is_err_and c.from_residual.result c.from_residual.ensures.1 in
+    rw (e.1, e.2) c.in_err-write_out.ensures.fails
+
+pub returns-in_err-write_rest-clause-ends : goal.returns-in_err-write_rest-clause-ends
+returns-in_err-write_rest-clause-ends g c =
+    let e = err_from_is_err_and c.from_residual-in_err-write_rest.result c.from_residual-in_err-write_rest.ensures.1 in
+    rw (e.1, e.2) c.in_err-write_rest.ensures.ends
+
+pub returns-in_err-flush-clause-ends : goal.returns-in_err-flush-clause-ends
+returns-in_err-flush-clause-ends g c =
+    let e = err_from_is_err_and c.from_residual-in_err-flush.result c.from_residual-in_err-flush.ensures.1 in
+    rw (e.1, e.2) c.in_err-flush.ensures.fails
