@@ -14,6 +14,8 @@ pub struct Counting<W> {
 }
 
 impl<W> Counting<W> {
+    ghost use Rattle.std.specs.Prelude.{◌≡◌};
+
     /// A writer to which nothing was written.
     pub fn new(alloc: Global, writer: W, is_asked: bool) -> Counting<W> {
         let lines = if is_asked {
@@ -29,7 +31,9 @@ impl<W> Counting<W> {
     }
 
     // Counts what was written.
-    fn count(&mut self, written: &[u8]) {
+    fn count(&mut self, written: &[u8])
+        ensures { self.new.writer ≡ self.old.writer }
+    {
         if let Some(lines) = &mut self.lines {
             if lines.take(written).is_err() {
                 self.has_failed = true;
@@ -58,6 +62,9 @@ impl<W: Drop> Counting<W> {
 }
 
 impl<W: Write> Write for Counting<W> {
+    // What was handed on.
+    ghost contents = { λ c. W.contents c.writer };
+
     fn write(&mut self, buf: &[u8]) -> io::Result<usize> {
         let count = self.writer.write(buf)?;
         self.count(&buf[..count]);
