@@ -54,7 +54,8 @@ pub fn passes_deliveries()
 }
 
 /// With clocks a run over the lines of a log feeds the query what passes of the records that the lines deliver, as each goes on
-/// (`feeds_deliveries` of `wsm_turn_laws`): a source's lines tell no watermark. So no record counts twice, whatever the clocks do.
+/// (`feeds_deliveries` of `wsm_turn_laws`): a source's lines tell no watermark. So no record counts twice, whatever
+/// the clocks do, where no double has a later time than the first of its identifier.
 pub fn counts_deliveries()
     ensures so_far { (s : Source) (q : Query) (c : Clocks) (lines : List (List ℕ)) → Suits c q → FeedsDeliveries q c (said_with s (Some c) q.declared lines) }
     ensures at_end { (s : Source) (q : Query) (c : Clocks) (lines : List (List ℕ)) → Suits c q → EndsDeliveries q c (said_with s (Some c) q.declared lines) }
