@@ -110,7 +110,7 @@ pub fn istream(before: &Relation, now: &Relation, out: &mut Vec<Columns>)
     requires { vec_len out.old + length now.now.rows ≤ vec_capacity out.old }
     ensures rows { out.new.items ≡ out.old.items ++ difference now.now.rows before.now.rows }
     ensures counts { IsExcess now.now.rows before.now.rows (difference now.now.rows before.now.rows) }
-    ensures capacity { vec_capacity out.old ≤ vec_capacity out.new }
+    ensures capacity { vec_capacity out.new ≡ vec_capacity out.old }
 {
     append_difference(&now.rows, &before.rows, out);
 }
@@ -121,7 +121,7 @@ pub fn dstream(before: &Relation, now: &Relation, out: &mut Vec<Columns>)
     requires { vec_len out.old + length before.now.rows ≤ vec_capacity out.old }
     ensures rows { out.new.items ≡ out.old.items ++ difference before.now.rows now.now.rows }
     ensures counts { IsExcess before.now.rows now.now.rows (difference before.now.rows now.now.rows) }
-    ensures capacity { vec_capacity out.old ≤ vec_capacity out.new }
+    ensures capacity { vec_capacity out.new ≡ vec_capacity out.old }
 {
     append_difference(&before.rows, &now.rows, out);
 }
@@ -131,7 +131,7 @@ pub fn rstream(now: &Relation, out: &mut Vec<Columns>)
     requires { vec_len out.old + length now.now.rows ≤ vec_capacity out.old }
     ensures rows { out.new.items ≡ out.old.items ++ now.now.rows }
     ensures order { IsInOrder now.now.rows }
-    ensures capacity { vec_capacity out.old ≤ vec_capacity out.new }
+    ensures capacity { vec_capacity out.new ≡ vec_capacity out.old }
 {
     append_all(&now.rows, out);
 }

@@ -30,11 +30,11 @@ pub fn place_of(rows: &[Box<Columns>], row: &Columns) -> usize
 pub fn append_all(rows: &[Box<Columns>], out: &mut Vec<Columns>)
     requires { vec_len out.old + length rows.now ≤ vec_capacity out.old }
     ensures rows { out.new.items ≡ out.old.items ++ rows_in rows.now }
-    ensures capacity { vec_capacity out.old ≤ vec_capacity out.new }
+    ensures capacity { vec_capacity out.new ≡ vec_capacity out.old }
 {
     let mut i = 0;
     while i < rows.len() {
-        out.push(*rows[i]).unwrap();
+        out.push_reserved(*rows[i]);
         i += 1;
     }
 }
@@ -45,7 +45,7 @@ pub fn append_difference(rows: &[Box<Columns>], others: &[Box<Columns>], out: &m
     requires others { IsInOrder (rows_in others.now) }
     requires room { vec_len out.old + length rows.now ≤ vec_capacity out.old }
     ensures rows { out.new.items ≡ out.old.items ++ difference (rows_in rows.now) (rows_in others.now) }
-    ensures capacity { vec_capacity out.old ≤ vec_capacity out.new }
+    ensures capacity { vec_capacity out.new ≡ vec_capacity out.old }
 {
     let mut i = 0;
     let mut j = 0;
@@ -57,7 +57,7 @@ pub fn append_difference(rows: &[Box<Columns>], others: &[Box<Columns>], out: &m
         };
         match order {
             Ordering::Less => {
-                out.push(*rows[i]).unwrap();
+                out.push_reserved(*rows[i]);
                 i += 1;
             }
             Ordering::Equal => {

@@ -4,8 +4,8 @@ use Rattle.wsm_relation.proofs.rows.append_all.Goals as goal
 
 pub loop-i-preserved : goal.loop-i-preserved
 loop-i-preserved c =
-    let pushed : c.push.new.self.items ≡ c.loop-i.out.items ++ c.deref.result.now ∷ [] = rw c.unwrap.ensures at c.push.ensures.items in
-    let longer : vec_len c.push.new.self ≡ vec_len c.loop-i.out + 1 = rw c.unwrap.ensures at c.push.ensures.len in
+    let pushed : c.push_reserved.new.self.items ≡ c.loop-i.out.items ++ c.deref.result.now ∷ [] = c.push_reserved.ensures.items in
+    let longer : vec_len c.push_reserved.new.self ≡ vec_len c.loop-i.out + 1 = c.push_reserved.ensures.len in
     let value : c.deref.result.now ≡ c.index-rows-i.result.value = c.deref.ensures in
     record {
       items =
@@ -15,5 +15,5 @@ loop-i-preserved c =
           ∙ ap (λ l. c.args.out.now.items ++ l) (sym (take-next c.args.rows.now c.loop-i.i c.index-rows-i.result c.loop-i-test.true c.index-rows-i.is));
       within = omega arith;
       len = omega (arith, c.loop-i.invariant.len);
-      capacity = omega (arith, c.loop-i.invariant.capacity, c.push.ensures.capacity);
+      capacity = c.push_reserved.ensures.capacity ∙ c.loop-i.invariant.capacity;
     }

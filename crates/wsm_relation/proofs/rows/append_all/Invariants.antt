@@ -7,7 +7,7 @@ invariant-loop-i l = record {
   items : l.out.items ≡ l.initial.out.items ++ take l.i (rows_in l.rows);
   within : l.i ≤ length l.rows;
   len : vec_len l.out ≡ vec_len l.initial.out + l.i;
-  capacity : vec_capacity l.initial.out ≤ vec_capacity l.out;
+  capacity : vec_capacity l.out ≡ vec_capacity l.initial.out;
 }
 
 abbrev pub decreases-loop-i : goal.decreases-loop-i

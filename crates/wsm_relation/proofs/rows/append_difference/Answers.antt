@@ -12,8 +12,8 @@ loop-i-preserved-in-Less c =
     let i = c.loop-i.i in
     let j = c.loop-i.j in
     let box = c.index-rows-i-in-Less.result in
-    let pushed : c.push.new.self.items ≡ c.loop-i.out.items ++ c.deref-in-Less.result.now ∷ [] = rw c.unwrap.ensures at c.push.ensures.items in
-    let longer : vec_len c.push.new.self ≡ vec_len c.loop-i.out + 1 = rw c.unwrap.ensures at c.push.ensures.len in
+    let pushed : c.push_reserved.new.self.items ≡ c.loop-i.out.items ++ c.deref-in-Less.result.now ∷ [] = c.push_reserved.ensures.items in
+    let longer : vec_len c.push_reserved.new.self ≡ vec_len c.loop-i.out + 1 = c.push_reserved.ensures.len in
     let value : c.deref-in-Less.result.now ≡ box.value = c.deref-in-Less.ensures in
     let step : left xs ys i j i j ≡ box.value ∷ left xs ys i j (i + 1) j = elim c.if-j-others.branch [
       | then-j-others w ↦
@@ -30,8 +30,8 @@ loop-i-preserved-in-Less c =
           ∙ c.loop-i.invariant.items;
       row = omega arith;
       other = c.loop-i.invariant.other;
-      room = omega (arith, c.loop-i.invariant.room, c.push.ensures.capacity);
-      capacity = omega (arith, c.loop-i.invariant.capacity, c.push.ensures.capacity);
+      room = omega (arith, c.loop-i.invariant.room, c.push_reserved.ensures.capacity);
+      capacity = c.push_reserved.ensures.capacity ∙ c.loop-i.invariant.capacity;
     }
 
 pub loop-i-preserved-in-Equal : goal.loop-i-preserved-in-Equal

@@ -10,7 +10,7 @@ invariant-loop-i l = record {
   row : l.i ≤ length l.rows;
   other : l.j ≤ length l.others;
   room : vec_len l.out + (length l.rows - l.i) ≤ vec_capacity l.out;
-  capacity : vec_capacity l.initial.out ≤ vec_capacity l.out;
+  capacity : vec_capacity l.out ≡ vec_capacity l.initial.out;
 }
 
 abbrev pub decreases-loop-i : goal.decreases-loop-i
