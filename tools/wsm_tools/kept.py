@@ -5,7 +5,7 @@ from itertools import islice
 from typing import NamedTuple, Tuple
 
 from .rows import LONGEST
-from .telling import BAD_READ, Ended
+from .telling import BAD_READ, Ended, named
 
 TAG = b"kept"
 
@@ -20,23 +20,18 @@ class Head(NamedTuple):
     query: int = 0      # the sum of the query's text
 
 
-def head_of(row: bytes) -> Head:
+def head_of(path: str, row: bytes) -> Head:
     """What a file's first row says."""
     if not row.startswith(TAG + b","):
         return Head()
     cells = row.split(b",")[1:]
     if len(cells) != 6 or not all(cell.isdigit() for cell in cells):
-        raise Ended(f"the first row is none that keep wrote: {row[:60].decode('latin-1')}")
+        raise Ended(f"{path}: the first row is none that keep wrote: {row[:60].decode('latin-1')}")
     return Head(*map(int, cells))
 
 
 def kept_in(path: str) -> Tuple[Head, int]:
     """The head of a file of rows, and how many of the rows that were kept are records."""
-    try:
-        with open(path, "rb") as file:
-            head = head_of(file.readline(LONGEST).rstrip(b"\r\n"))
-            return head, sum(row.startswith(b"r,") for row in islice(file, max(0, head.kept - 1)))
-    except Ended as why:
-        raise Ended(f"{path}: {why}") from None
-    except OSError as why:
-        raise Ended(f"{path}: {why.strerror}", BAD_READ) from None
+    with named(path, BAD_READ), open(path, "rb") as file:
+        head = head_of(path, file.readline(LONGEST).rstrip(b"\r\n"))
+        return head, sum(row.startswith(b"r,") for row in islice(file, max(0, head.kept - 1)))

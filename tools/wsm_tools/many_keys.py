@@ -41,10 +41,8 @@ from .telling import Ended, tell
 if TYPE_CHECKING:
     from argparse import Namespace
 
-AT_ONCE = 1 << 20  # bytes that are read at once
 TRIES = 3  # how often a task that failed is run again
 PATIENCE = "10 minutes"  # for what a cluster of our own does within itself, on a machine that has much else to do
-LEFT = re.compile("exception was never retrieved|was destroyed but it is pending|was never awaited")
 # A watermark that is refused. It stands behind each other one, and in front of it where records may write lines, so each
 # part has it, and what is written shows where that was.
 MARK = b"w,x\n"
@@ -52,7 +50,7 @@ MARK = b"w,x\n"
 REST = rb'[^"\n]*(?:"[^"]*"[^"\n]*)*'
 ROW = re.compile(REST + rb"\n")
 WATERMARK = re.compile(rb"w(?:," + REST + rb")?\n")
-KEY = re.compile(rb"\nr,(\w+)[,\n]")
+KEY = re.compile(rb"\nr,(\w+)(?=[,\n])")
 LONGEST = 64  # bytes; a key with what stands around it is shorter
 REFUSED = re.compile(rb"\nrefused,.*(?:\nrefused,.*){,1000}")
 # A row that one part gains may be one that another part loses; so for either of these forms each part is run with both.
@@ -182,9 +180,7 @@ def keys_of(path: str) -> bytes:
         if text.find(b'"') >= 0:
             found = {row[0][2:-1].split(b",")[0] for row in ROW.finditer(text) if row[0].startswith(b"r,")}
         else:
-            found = set(KEY.findall(b"\n" + text[:LONGEST]))
-            for begin in range(0, len(text), AT_ONCE):
-                found.update(KEY.findall(text, begin, begin + AT_ONCE + LONGEST))
+            found = {row[1] for row in chain(KEY.finditer(b"\n" + text[:LONGEST]), KEY.finditer(text))}
     return b"\n".join(found)
 
 
@@ -417,21 +413,13 @@ def merge(
 
 # ---- the cluster
 
-@contextmanager
-def closing_quietly(client: Any) -> Iterator[Any]:
-    """Where a loop ends before all that was begun in it, that is told of what nobody waits for: but not while it closes.
-
-    By then all answers are in, or it is told why they aren't.
-    """
-    def tell_others(loop: Any, context: Dict[str, Any]) -> None:
-        if not LEFT.search(context["message"]):
-            loop.default_exception_handler(context)
-
+def quietly(client: Any) -> Iterator[Any]:
+    """A client of which nothing is told as it closes: by then all answers are in, or it is told why they aren't."""
     try:
         yield client
     finally:
-        client.loop.asyncio_loop.set_exception_handler(tell_others)
-        warnings.filterwarnings("ignore", f".*({LEFT.pattern})", RuntimeWarning)
+        client.loop.asyncio_loop.set_exception_handler(lambda *_: None)
+        warnings.filterwarnings("ignore", category=RuntimeWarning)
 
 
 @contextmanager
@@ -443,8 +431,8 @@ def client_of(asked: Namespace, room: str) -> Iterator[Any]:
     if asked.scheduler is not None:
         # Workers elsewhere haven't got these modules: the tasks are sent as they stand.
         import_module("cloudpickle").register_pickle_by_value(sys.modules[__package__])
-        with distributed.Client(asked.scheduler) as client, closing_quietly(client):
-            yield client
+        with distributed.Client(asked.scheduler) as client:
+            yield from quietly(client)
     else:
         # All ports are on the loopback: whoever reaches one may run anything.
         pages = {"dashboard_address": "127.0.0.1:0", "worker_dashboard_address": "127.0.0.1:0"}
@@ -455,14 +443,14 @@ def client_of(asked: Namespace, room: str) -> Iterator[Any]:
         dask.config.set({"distributed.comm.timeouts.connect": PATIENCE, "distributed.comm.timeouts.tcp": PATIENCE})
         warnings.filterwarnings("ignore", "Creating scratch directories is taking", UserWarning)
         with distributed.LocalCluster(n_workers=asked.workers, **settings) as cluster:
-            with distributed.Client(cluster) as client, closing_quietly(client):
-                yield client
+            with distributed.Client(cluster) as client:
+                yield from quietly(client)
 
 
 def each(client: Any, told: str, task: Callable[..., T], works: Sequence[Sequence[Any]]) -> List[T]:
     """What a task answers for each list of words, in their order. Tells some ten times how far it has come."""
     as_completed = import_module("distributed").as_completed
-    futures = [client.submit(task, *words, pure=False, retries=TRIES) for words in works]
+    futures = client.map(task, *zip(*works), pure=False, retries=TRIES)
     answers = {}
     try:
         for done, (future, answer) in enumerate(as_completed(futures, with_results=True), 1):

@@ -11,7 +11,7 @@ from time import monotonic
 from typing import TYPE_CHECKING, List, NamedTuple, Sequence, Tuple
 
 from .rows import lines_of
-from .telling import BAD_READ, BAD_WRITE, Ended, shown, was_stopped
+from .telling import BAD_READ, BAD_WRITE, Ended, named, shown, was_stopped
 
 if TYPE_CHECKING:
     from .sink import Sink
@@ -45,14 +45,12 @@ class Teller:
     def tell(self, lines: int, total: int) -> None:
         """Tells it; the file is written beside, synced and renamed."""
         beside = self.path.with_name(f"{self.path.name}.next")
-        try:
+        with named(str(self.path), BAD_WRITE):
             with open(beside, "w", encoding="ascii", opener=private) as file:
                 file.write(f"{self.name},{lines},{total}\n")
                 file.flush()
                 os.fsync(file.fileno())
             os.replace(beside, self.path)
-        except OSError as why:
-            raise Ended(f"{self.path}: {why.strerror}", BAD_WRITE) from None
         self.told, self.next = lines, monotonic() + PAUSE
 
     def wait(self, descriptor: int, lines: int, total: int) -> None:

@@ -6,18 +6,16 @@ import fcntl
 import os
 import re
 from itertools import chain
-from typing import IO, TYPE_CHECKING, Callable, Dict, Iterator, List, NamedTuple, Optional, Sequence, Tuple, TypeVar, Union
+from typing import IO, TYPE_CHECKING, Dict, Iterator, List, NamedTuple, Optional, Sequence, Tuple, Union
 
-from .telling import BAD_WRITE, Ended
+from .telling import BAD_WRITE, Ended, named
 
 if TYPE_CHECKING:
-    import sqlite3
     from subprocess import Popen
 
 SEPARATOR = "\x1f"
 Rows = List[Tuple[str, ...]]
 Value = Union[int, str]
-T = TypeVar("T")
 
 
 class Work(NamedTuple):
@@ -52,26 +50,18 @@ class File:
     others = unfit = 1  # the statuses where another sink took lines, and where a line is none of the query's
 
     def __init__(self, path: str) -> None:
-        self.shown = path
-        try:
-            self.lock = lock_of(path)
-        except OSError as why:
-            raise Ended(f"{path}.lock: {why.strerror}", BAD_WRITE) from None
-        self.base: sqlite3.Connection = self.guarded(self.opened)
-
-    def opened(self) -> sqlite3.Connection:
         import sqlite3
 
-        base = sqlite3.connect(self.shown, timeout=10, isolation_level=None)
-        base.execute("PRAGMA journal_mode = WAL")
-        base.execute("PRAGMA synchronous = NORMAL")
-        return base
+        self.shown = path
+        with named(f"{path}.lock", BAD_WRITE):
+            self.lock = lock_of(path)
+        with self.alone():
+            self.base = sqlite3.connect(path, timeout=10, isolation_level=None)
+            self.base.execute("PRAGMA journal_mode = WAL")
+            self.base.execute("PRAGMA synchronous = NORMAL")
 
     def ask(self, statements: Sequence[str], question: str) -> Rows:
         """The rows of a question, behind some statements, in one transaction."""
-        return self.guarded(lambda: self.asked(statements, question))
-
-    def asked(self, statements: Sequence[str], question: str) -> Rows:
         with self.transaction():
             for statement in statements:
                 self.base.execute(statement)
@@ -79,39 +69,36 @@ class File:
 
     def make(self, table: str, statements: Sequence[str]) -> None:
         """Makes a table by some statements, unless it is there: of sinks that begin at once, one does."""
-        self.guarded(lambda: self.made(table, statements))
-
-    def made(self, table: str, statements: Sequence[str]) -> None:
         with self.transaction():
             found = self.base.execute("SELECT 1 FROM sqlite_master WHERE type = 'table' AND name = ?", (table,))
             for statement in statements if found.fetchone() is None else []:
                 self.base.execute(statement)
 
-    @contextlib.contextmanager
-    def transaction(self) -> Iterator[None]:
-        self.base.execute("BEGIN IMMEDIATE")
-        try:
-            yield
-        except BaseException:
-            self.base.execute("ROLLBACK")
-            raise
-        self.base.execute("COMMIT")
-
     def run(self, works: Sequence[Work]) -> None:
         """One transaction."""
-        self.guarded(lambda: self.ran(works))
-
-    def ran(self, works: Sequence[Work]) -> None:
         with self.transaction():
             for statement, rows in works:
                 self.base.executemany(statement, rows)
 
-    def guarded(self, work: Callable[[], T]) -> T:
+    @contextlib.contextmanager
+    def transaction(self) -> Iterator[None]:
+        with self.alone():
+            self.base.execute("BEGIN IMMEDIATE")
+            try:
+                yield
+            except BaseException:
+                self.base.execute("ROLLBACK")
+                raise
+            self.base.execute("COMMIT")
+
+    @contextlib.contextmanager
+    def alone(self) -> Iterator[None]:
+        """No other sink works on the file meanwhile. What fails there ends this one."""
         import sqlite3
 
         fcntl.flock(self.lock, fcntl.LOCK_EX)
         try:
-            return work()
+            yield
         except sqlite3.IntegrityError as why:
             if "taken.lines" in str(why):
                 raise Ended(f"{self.shown}: another sink takes lines there", self.others) from None
@@ -123,7 +110,8 @@ class File:
 
     def secure(self) -> None:
         """All that was written is on the disk: a commit with FULL is synced, and what came before it with it."""
-        self.guarded(lambda: self.base.execute("PRAGMA synchronous = FULL"))
+        with self.alone():
+            self.base.execute("PRAGMA synchronous = FULL")
         self.run([Work("UPDATE taken SET lines = lines")])
 
     def close(self) -> None:

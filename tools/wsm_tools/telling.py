@@ -4,7 +4,8 @@ from __future__ import annotations
 import os
 import signal
 import sys
-from typing import TYPE_CHECKING, Callable, Optional
+from contextlib import contextmanager
+from typing import TYPE_CHECKING, Callable, Iterator, Optional
 
 if TYPE_CHECKING:
     from argparse import ArgumentParser
@@ -20,6 +21,15 @@ class Ended(Exception):
     def __init__(self, why: str, status: int = 1) -> None:
         super().__init__(why)
         self.status = status
+
+
+@contextmanager
+def named(path: str, status: int) -> Iterator[None]:
+    """What the system refuses there ends the tool with this status, and is told with the file's name."""
+    try:
+        yield
+    except OSError as why:
+        raise Ended(f"{path}: {why.strerror}", status) from None
 
 
 class Stopped(Exception):

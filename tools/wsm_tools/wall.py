@@ -68,7 +68,7 @@ class Board(NamedTuple):
 # ---- the table
 
 def answers(table: str, questions: Sequence[str]) -> List[List[Tuple[str, ...]]]:
-    """The rows of each question, of one state of a table."""
+    """The rows of each question, in a file of one state of it."""
     if table.startswith(("postgresql://", "postgres://")):
         server = Server(table)
         return [server.ask([], question) for question in questions]
@@ -190,12 +190,10 @@ def grouped(value: str) -> str:
 def write(asked: Namespace) -> None:
     """Writes the page beside its place, and puts it there as a whole."""
     text = Page(board_of(asked.table, asked.hours * 3600 * UNITS[asked.unit]), asked).text(time.time())
-    try:
+    with telling.named(asked.page, BAD_WRITE):
         with open(f"{asked.page}.new", "w", encoding="utf-8") as file:
             file.write(text)
         os.replace(f"{asked.page}.new", asked.page)
-    except OSError as why:
-        raise Ended(f"{asked.page}: {why.strerror}", BAD_WRITE) from None
 
 
 def words() -> Namespace:
