@@ -2,7 +2,7 @@
 from __future__ import annotations
 
 import re
-from typing import Callable, NamedTuple, Sequence
+from typing import Callable, Collection, NamedTuple, Sequence
 
 NAME, NUMBER, END = "a name", "a number", "the end of the text"  # of what may stand at a place
 FUNCTIONS = ("COUNT(*)", "SUM", "MIN", "MAX", "ANY", "ALL")
@@ -65,7 +65,7 @@ class Place(NamedTuple):
     at: int
     token: str  # what stands there, empty at the end
     asked: Sequence[str]  # words, signs and kinds of tokens that may stand there
-    reserved: Sequence[str]  # the words of the language
+    reserved: Collection[str]  # the words of the language
     clauses: Sequence[str]  # those that begin clauses, in their order
     is_byte: bool  # whether no word, number or sign begins there
 
@@ -100,7 +100,7 @@ class Place(NamedTuple):
         return re.match(pattern, self.rest) is not None
 
 
-def word_advice(word: str, reserved: Sequence[str]) -> str:
+def word_advice(word: str, reserved: Collection[str]) -> str:
     """What helps with a word of another language, or one that isn't in capitals."""
     if word.upper() in reserved and word not in reserved:
         return f"Words of the language are written in capitals: `{word.upper()}`."
@@ -229,7 +229,7 @@ def advice(place: Place) -> str:
     return next((said for way in WAYS if (said := way(place))), "")
 
 
-def called(name: str, reserved: Sequence[str]) -> str:
+def called(name: str, reserved: Collection[str]) -> str:
     """What helps where a name is written as a function."""
     if name.upper() in reserved and name not in reserved:
         return f"Words of the language are written in capitals: `{name.upper()}`."

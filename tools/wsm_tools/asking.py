@@ -9,7 +9,7 @@ import re
 from functools import cache
 from typing import IO, TYPE_CHECKING, Any, Dict, FrozenSet, List, NamedTuple, Optional, Sequence, Union
 
-from .telling import BAD_QUERY, BAD_READ, BAD_WORDS, REJECTED, Ended, shown
+from .telling import BAD_QUERY, BAD_READ, BAD_WORDS, REJECTED, Ended, named, shown
 
 if TYPE_CHECKING:
     from subprocess import CompletedProcess
@@ -40,10 +40,8 @@ def asked_of(wsm: str, *words: str) -> CompletedProcess[str]:
     """What the program answers to some words."""
     import subprocess
 
-    try:
+    with named(wsm, BAD_WORDS):
         return subprocess.run([wsm, *words], stdin=subprocess.DEVNULL, capture_output=True, encoding="latin-1")
-    except OSError as why:
-        raise Ended(f"{wsm}: {why.strerror}", BAD_WORDS) from None
 
 
 def written(text: str) -> IO[str]:
@@ -82,11 +80,14 @@ class Column(NamedTuple):
 
 
 class Limits(NamedTuple):
-    """The most columns, fields and names of a query, the latest time, and the longest window."""
+    """The words that are no names; the most columns, fields and names of a query, the latest time, and the longest window
+    and name."""
+    words: FrozenSet[str]
     columns: int
     fields: int
     latest: int
     longest: int
+    name: int
     names: int
 
 
@@ -94,7 +95,13 @@ class Limits(NamedTuple):
 def limits() -> Limits:
     """Those of the program that is there; without one there are none."""
     wsm = there()
-    return Answer(wsm, "").limits if wsm else Limits(*[NO_LIMIT] * 5)
+    return Answer(wsm, "").limits if wsm else Limits(frozenset(), *[NO_LIMIT] * 6)
+
+
+def is_name(word: str) -> bool:
+    """Whether a word may be a key, a field, or a name of one."""
+    known = limits()
+    return re.fullmatch(r"[A-Za-z]\w*", word, re.ASCII) is not None and len(word) <= known.name and word not in known.words
 
 
 class Answer:
@@ -111,7 +118,7 @@ class Answer:
         self.status = ran.returncode
         self.said: Dict[str, Any] = json.loads(ran.stdout)
         self.fault: Dict[str, Any] = self.said["fault"] or {}
-        self.limits = Limits(**self.said["limits"])
+        self.limits = Limits(frozenset(self.said["words"]), **self.said["limits"])
         begins = [0, *(found.end() for found in re.finditer("\n", text))]
         self.parts: List[Part] = []
         for part in self.said["parts"] or []:
@@ -186,11 +193,8 @@ def field_of(said: Dict[str, Any]) -> Field:
 
 def read(path: str) -> str:
     """The text of a file of one byte a letter."""
-    try:
-        with open(path, encoding="latin-1", newline="") as file:
-            return file.read()
-    except OSError as why:
-        raise Ended(f"{path}: {why.strerror}", BAD_READ) from None
+    with named(path, BAD_READ), open(path, encoding="latin-1", newline="") as file:
+        return file.read()
 
 
 def query_of(path: str, wsm: Optional[str]) -> Query:
@@ -236,16 +240,3 @@ def selected(query: Query, wsm: str, words: Sequence[str], rows: str, end: bytes
         raise Ended(f"the records of {rows} weren't counted, status {ran.returncode}: {shown(ran.stderr.strip().encode('latin-1'))}", BAD_READ)
     told = ran.stdout.encode("latin-1").rsplit(b"\n", 2)[-2]
     return int(told.rsplit(b",", 1)[1]) if told.rsplit(b",", 1)[0] == end.rsplit(b",", 1)[0] else None
-
-
-def names_among(wsm: Optional[str], words: Sequence[str]) -> FrozenSet[str]:
-    """Those of some words that may be names, by what the program says of keys. Without a program each may be."""
-    left = list(dict.fromkeys(word for word in words if "\n" not in word))
-    while left and wsm is not None:
-        with written("".join(f"{word}\n" for word in left)) as file:
-            ran = asked_of(wsm, "deal", "--keys-of", file.name, str(-(-len(left) // 1000)), "0")
-        found = re.search(r"K1 BadName in line (\d+)", ran.stderr)
-        if ran.returncode == 0 or not found:
-            break
-        del left[int(found[1]) - 1]
-    return frozenset(left)

@@ -1,6 +1,6 @@
 """What the columns of a log are to be, for `propose`: the time, the key, and each field with its type and its words.
 
-A column is all that stands at one place of the lines. What can't be placed is left out, and `Left` has why.
+A column is all that stands at one place of the lines.
 """
 from __future__ import annotations
 
@@ -8,7 +8,7 @@ import re
 import unicodedata
 from typing import Dict, Iterable, List, Mapping, Optional, Sequence, Set, Tuple, Union
 
-from .asking import limits, names_among
+from .asking import is_name, limits
 from .logs import ODD, Cells, Number, Odd
 from .telling import BAD_WORDS, Ended, printable
 from .times import form_of
@@ -18,7 +18,6 @@ MOST_SAMPLES = 2000  # texts by which a form of times is found
 FEW = 8  # texts that are few in however few lines
 LONGEST_KEY = 255  # bytes
 GREATEST = 2**63 - 1
-LONGEST_NAME = 32
 TIME_NAME = r"(?i)(.*[/_. @-])?(time|timestamp|ts|t|at|date|datetime|when|zeit)"
 PAIRS = [
     (style(yes), style(no))
@@ -34,66 +33,29 @@ STATES = set("""
 SIGNS = [(".", None), (".", ","), (",", None), (",", "."), (",", " "), (".", "'")]  # point and group
 
 
-class Names:
-    """Which words may be names: the program is asked of those that look so. Without a program each of these may."""
-
-    def __init__(self, wsm: Optional[str]) -> None:
-        self.program, self.looked = wsm, dict[str, bool]()
-
-    def learn(self, words: Iterable[str]) -> None:
-        """Asks of all of them at once."""
-        new = [word for word in words if word not in self.looked and looks_so(word)]
-        names = names_among(self.program, new)
-        self.looked.update((word, word in names) for word in new)
-
-    def has(self, word: str) -> bool:
-        self.learn([word])
-        return self.looked.get(word, False)
-
-    def has_all(self, words: Iterable[str]) -> bool:
-        words = list(words)
-        self.learn(words)
-        return all(self.looked.get(word, False) for word in words)
-
-
-def looks_so(word: str) -> bool:
-    return re.fullmatch(rf"[A-Za-z]\w{{,{LONGEST_NAME - 1}}}", word, re.ASCII) is not None
-
-
-def name_for(text: str, taken: Iterable[str], other: str, known: Names) -> str:
+def name_for(text: str, taken: Iterable[str], other: str) -> str:
     """A name that looks like a text, and that nothing else has."""
+    longest = limits().name
     plain = unicodedata.normalize("NFKD", text.replace("ß", "ss"))
-    name = re.sub(r"\W+", "_", re.sub("[\u0300-\u036f]", "", plain), flags=re.ASCII).strip("_")[:LONGEST_NAME]
-    name = name if name[:1].isalpha() or not name else f"{other}_{name}"[:LONGEST_NAME]
+    name = re.sub(r"\W+", "_", re.sub("[\u0300-\u036f]", "", plain), flags=re.ASCII).strip("_")[:longest]
+    name = name if name[:1].isalpha() or not name else f"{other}_{name}"[:longest]
     name = name or other
     number, found = 1, name
-    while found in taken or not known.has(found):
+    while found in taken or not is_name(found):
         number += 1
-        found = f"{name[:LONGEST_NAME - 1 - len(str(number))]}_{number}"
+        found = f"{name[:longest - 1 - len(str(number))]}_{number}"
     return found
 
 
-def names_for(texts: Iterable[str], other: str, known: Names) -> Dict[str, str]:
+def names_for(texts: Sequence[str], other: str) -> Dict[str, str]:
     """A name for each text: itself where it is one."""
-    texts = list(texts)
-    known.learn(texts)
-    names = {text: text for text in texts if known.has(text)}
+    names = {text: text for text in texts if is_name(text)}
     taken = set(names)
     for text in texts:
         if text not in names:
-            names[text] = name_for(text, taken, other, known)
+            names[text] = name_for(text, taken, other)
             taken.add(names[text])
     return names
-
-
-class Left:
-    """What is left out, each once with why."""
-
-    def __init__(self) -> None:
-        self.why: Dict[str, str] = {}
-
-    def out(self, what: str, why: str) -> None:
-        self.why.setdefault(what, why)
 
 
 # ---- columns
@@ -231,7 +193,7 @@ def time_of(columns: Dict[str, Column], said: Optional[str]) -> Tuple[Column, st
     return best[1], best[2], best[3], [column.place for _, column, *_ in found if column is not best[1]]
 
 
-def key_of(columns: Dict[str, Column], said: Optional[str], time: Column, records: int, known: Names) -> Tuple[Column, List[str]]:
+def key_of(columns: Dict[str, Column], said: Optional[str], time: Column, records: int) -> Tuple[Column, List[str]]:
     """Where the key stands, and places that might be it."""
     if said is not None:
         return column_at(columns, said, "--key"), []
@@ -243,7 +205,7 @@ def key_of(columns: Dict[str, Column], said: Optional[str], time: Column, record
 
     # A column that most lines have goes before one that all have and that tells how something went, or always the same.
     def rank(column: Column) -> Tuple[bool, bool, bool, int]:
-        return not column.is_state(), column.count == records, known.has_all(column.texts), len(column.texts)
+        return not column.is_state(), column.count == records, all(map(is_name, column.texts)), len(column.texts)
     some = sorted(filter(fits, columns.values()), key=rank, reverse=True)
     if not some:
         raise Ended("no text has few values: --key says where the key stands")
@@ -301,11 +263,11 @@ def bool_field(name: str, column: Column, is_missing: bool) -> Field:
     return Field(name, column.place, f"FIELD {name} BOOL;", said, {})
 
 
-def enum_field(name: str, column: Column, is_missing: bool, known: Names) -> Field:
-    names = names_for(sorted(column.texts), "w", known)
+def enum_field(name: str, column: Column, is_missing: bool) -> Field:
+    names = names_for(sorted(column.texts), "w")
     declared = list(names.values())
     if is_missing:
-        declared.append(name_for("none", declared, "none", known))
+        declared.append(name_for("none", declared, "none"))
     said = {"default": declared[-1]} if is_missing else {}
     words = {text: word for text, word in names.items() if text != word}
     return Field(name, column.place, f"FIELD {name} ENUM({', '.join(declared)});", said, words)
@@ -328,26 +290,26 @@ def why_not(column: Column) -> Optional[str]:
     return f"always {printable(next(iter(column.texts)))[:40]}" if len(column.texts) == 1 else None
 
 
-def fields_of(columns: Dict[str, Column], others: Set[str], records: int, left: Left, known: Names) -> List[Field]:
-    """The fields: all columns but those of the others, with names of their own."""
+def fields_of(columns: Dict[str, Column], others: Set[str], records: int) -> Tuple[List[Field], Dict[str, str]]:
+    """The fields: all columns but those of the others, with names of their own; and why each that is left out is none."""
     found: List[Field] = []
+    left: Dict[str, str] = {}
     some = [column for column in columns.values() if column.place not in others]
-    known.learn(column.place for column in some)
-    names = {column.place for column in some if known.has(column.place)}
+    names = {column.place for column in some if is_name(column.place)}
     for column in some:
         why = why_not(column)
         if why is None and len(found) == limits().fields:
             why = f"a query has at most {limits().fields} fields"
         if why is not None:
-            left.out(column.place, why)
+            left[column.place] = why
             continue
-        name = column.place if known.has(column.place) else name_for(column.place, names, "f", known)
+        name = column.place if is_name(column.place) else name_for(column.place, names, "f")
         names.add(name)
-        found.append(field_of(name, column, column.count < records, known))
-    return found
+        found.append(field_of(name, column, column.count < records))
+    return found, left
 
 
-def field_of(name: str, column: Column, is_missing: bool, known: Names) -> Field:
+def field_of(name: str, column: Column, is_missing: bool) -> Field:
     if column.numbers:
         return int_field(name, column, is_missing)
-    return bool_field(name, column, is_missing) if column.pair() else enum_field(name, column, is_missing, known)
+    return bool_field(name, column, is_missing) if column.pair() else enum_field(name, column, is_missing)

@@ -146,8 +146,7 @@ class Linter:
         self.sentences: List[str] = []
         self.mends: List[Mend] = []
         self.asked: List[str] = []  # what may stand at the place of a fault
-        told = re.search(r"These words are reserved[^`]*`([^`]*)`", page("FORMATS.md"))
-        self.reserved = told[1].split() if told else []
+        self.reserved = self.answer.limits.words
 
     def lines(self) -> List[str]:
         """What is told: the program's line first."""

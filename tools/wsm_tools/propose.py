@@ -45,13 +45,13 @@ from bisect import bisect_left, insort
 from typing import TYPE_CHECKING, Callable, Dict, Iterable, Iterator, List, Mapping, NamedTuple, Optional, Sequence, Set, Tuple
 
 from . import asking, telling
-from .asking import limits
-from .fields import LONGEST_KEY, Column, Left, Names, columns_of, fields_of, key_of, names_for
+from .asking import is_name, limits
+from .fields import LONGEST_KEY, Column, columns_of, fields_of, key_of, names_for
 from .fields import Field as LogField
 from .fields import time_of as place_of_time
 from .logs import ODD, Cells, Odd, format_of, reader_of, text_of, whole_log
-from .rows import HEADER, cleaned, lines_of, number_of, opened, time_in, time_of, whole
-from .telling import BAD_WORDS, BAD_WRITE, Ended, printable, shown, tell, whole_number
+from .rows import HEADER, cleaned, lines_of, number_of, time_in, time_of, whole
+from .telling import BAD_READ, BAD_WORDS, BAD_WRITE, Ended, printable, shown, tell, whole_number
 from .times import Zone, forms, has_zone
 
 if TYPE_CHECKING:
@@ -96,10 +96,9 @@ class Field:
         elif self.strange is None:
             self.strange = cell
 
-    def clause(self, name: str, known: Names) -> Optional[str]:
+    def clause(self, name: str) -> Optional[str]:
         """Its clause, or None where it can't be a field."""
-        known.learn(self.words)
-        strange = [word for at, word in enumerate(self.words) if at == limits().names or not known.has(word)]
+        strange = [word for at, word in enumerate(self.words) if at == limits().names or not is_name(word)]
         self.strange = strange[0] if strange else self.strange
         if self.strange is not None or self.words and self.low is not None or not self.words and self.low is None:
             return None
@@ -211,7 +210,7 @@ def told_of(rows: Rows, jump: int, behind: int) -> None:
             tell(f"{what}: {len(those)}, the first is line {those[0][0]}: {shown(those[0][1])}")
 
 
-def clauses(rows: Rows, events: Iterable[Event], known: Names) -> List[str]:
+def clauses(rows: Rows, events: Iterable[Event]) -> List[str]:
     """The clauses of the keys and the fields."""
     found: Dict[str, None] = {}
     fields: List[Field] = []
@@ -222,8 +221,7 @@ def clauses(rows: Rows, events: Iterable[Event], known: Names) -> List[str]:
             fields += [Field() for _ in cells[len(fields):]]
             for field, cell in zip(fields, cells):
                 field.add(cell)
-    known.learn(found)
-    keys, strange = ([key for key in found if known.has(key) == is_key] for is_key in (True, False))
+    keys, strange = ([key for key in found if is_name(key) == is_key] for is_key in (True, False))
     if strange:
         some = ", ".join(shown(key.encode("latin-1")) for key in strange[:10])
         tell(f"names that can't be keys: {len(strange)}: {some}{', ..' if len(strange) > 10 else ''}; a file of names of a source gives them keys")
@@ -232,7 +230,7 @@ def clauses(rows: Rows, events: Iterable[Event], known: Names) -> List[str]:
     names = rows.names or [f"f{at}" for at in range(1, len(fields) + 1)]
     lines = [f"KEYS {', '.join(sorted(keys))};"] if keys else []
     for name, field in zip(names, fields):
-        clause = field.clause(name, known) if known.has(name) else None
+        clause = field.clause(name) if is_name(name) else None
         if clause is None:
             case = field.strange if field.strange is not None else "numbers and words"
             tell(f"{name} can't be a field: {shown(case.encode('latin-1'))}")
@@ -252,7 +250,7 @@ def head_of_rows(rows: Rows, asked: Namespace) -> None:
     if records in (0, len(events)):
         raise Ended(f"{records} records, and no watermark: there must be some among the rows, or by BOUND and STEP"
                     if records else "there are no records that agree")
-    head = clauses(rows, events, Names(asking.there()))
+    head = clauses(rows, events)
     start = start_of(events)
     behind, skew, lateness = measured(events, start)
     print(f"{len(behind)} records, behind the greatest time by at most")
@@ -462,13 +460,13 @@ class Proposal(NamedTuple):
     names: Optional[str]  # the file of names, where there must be one
 
 
-def keys_of(texts: Iterable[str], asked: Namespace, known: Names) -> Tuple[Dict[str, str], bool]:
+def keys_of(texts: Iterable[str], asked: Namespace) -> Tuple[Dict[str, str], bool]:
     """The key of each text, and whether a file of names must say so."""
-    names = names_for(sorted(set(texts)), "k", known)
-    strange = [text for text in names if not known.has(text)]
+    names = names_for(sorted(set(texts)), "k")
+    strange = [text for text in names if not is_name(text)]
     if strange and asked.source is None:
         tell(f"names that can't be keys: {len(strange)}: {named(strange)}; with --source a file of names gives them keys")
-        names = {text: name for text, name in names.items() if known.has(text)}
+        names = {text: name for text, name in names.items() if is_name(text)}
     if len(names) > limits().names:
         tell(f"{len(names)} keys are more than the {limits().names} that a query has: docs/SCALING.md")
     if not names:
@@ -490,26 +488,25 @@ def leave_wrong_out(found: Rows, texts: Dict[int, str], asked: Namespace) -> Opt
 
 
 def proposed(log: Log, asked: Namespace) -> Proposal:
-    known = Names(asking.there())
     columns, readable = columns_of(cells for _, cells in log.read() if cells is not None)
     if not columns:
         raise Ended(f"no line is {log.form}")
     time, form, zone = time_and_zone(log, columns, asked)
-    key, others = key_of(columns, asked.key, time, readable, known)
+    key, others = key_of(columns, asked.key, time, readable)
     if others:
         tell(f"the key stands at {printable(key.place)}; others that might be it: {named(others)}")
     found = Rows()
     found.events, texts = log.events(key, time, forms(zone, True)[form])
     log.tell()
     of_records = columns if len(found.events) == readable else columns_of_records(log, columns, found.events)
-    fields = fields_in(log, columns, of_records, {key.place, time.place}, len(found.events), known)
+    fields = fields_in(log, columns, of_records, {key.place, time.place}, len(found.events))
     found.events = log.taken(found.events, fields)
     every = {event.number: event.time for event in found.events}
     clocks = leave_wrong_out(found, texts, asked)
     if not found.events:
         raise Ended("there are no records that agree")
     of_clocks = every if clocks else [event.number for event in found.events]  # a clock that is wrong is one all the same
-    names, has_table = keys_of((texts[number] for number in of_clocks), asked, known)
+    names, has_table = keys_of((texts[number] for number in of_clocks), asked)
     events = [event for event in found.events if texts[event.number] in names]
     wrong = {number: every[number] for number, _ in found.wrong if texts[number] in names}
     clock = clock_of(events, clocks.at_once + 1 if clocks else 2 if wrong and len(names) > 2 else 1, asked)
@@ -532,18 +529,15 @@ def columns_of_records(log: Log, columns: Dict[str, Column], events: Iterable[Ev
     return {**{place: Column(place) for place in columns}, **columns_of(log.cells_of(events))[0]}
 
 
-def fields_in(
-    log: Log, columns: Dict[str, Column], of_records: Dict[str, Column], others: Set[str], records: int, known: Names,
-) -> List[LogField]:
+def fields_in(log: Log, columns: Dict[str, Column], of_records: Dict[str, Column], others: Set[str], records: int) -> List[LogField]:
     """The fields of the records, and what is told of columns that are none."""
-    left = Left()
     if log.form == "access" and "path" in columns:
         others.add("request")  # method, path and protocol have it
-    found = fields_of(of_records, others, records, left, known)
+    found, left = fields_of(of_records, others, records)
     for field in found:
         if field.doubt:
             tell(f"{printable(field.place)}: {field.doubt}")
-    for place, why in left.why.items():
+    for place, why in left.items():
         if columns[place].count or not any(other.startswith((f"{place}/", f"/{place}/")) for other in columns):
             tell(f"{printable(place)} is no field: {why}")
     return found
@@ -566,11 +560,8 @@ def names_file(source: str) -> str:
 
 
 def written(path: str, text: str) -> None:
-    try:
-        with open(path, "wb") as file:
-            file.write(text.encode())
-    except OSError as why:
-        raise Ended(f"{path}: {why.strerror}", BAD_WRITE) from None
+    with telling.named(path, BAD_WRITE), open(path, "wb") as file:
+        file.write(text.encode())
 
 
 def tried(found: Proposal, asked: Namespace) -> int:
@@ -618,7 +609,7 @@ def words() -> Namespace:
     parser.add_argument("--jump", type=whole_number, default=JUMP)
     parser.add_argument("--behind", type=whole_number)
     parser.add_argument("--agree", action="store_true")
-    parser.add_argument("log", nargs="?")
+    parser.add_argument("log", nargs="?", default="-")
     asked = parser.parse_args()
     if (asked.bound is None) != (asked.step is None) or asked.step == 0:
         parser.error("BOUND and STEP are said together, and STEP is 1 or more")
@@ -632,7 +623,8 @@ def words() -> Namespace:
 def main() -> int:
     asked = words()
     telling.Signals.begin()
-    descriptor = opened(None if asked.log == "-" else asked.log)
+    with telling.named(asked.log, BAD_READ):
+        descriptor = sys.stdin.fileno() if asked.log == "-" else os.open(asked.log, os.O_RDONLY)
     rows = Rows()
     if asked.format == "rows":
         for lines in lines_of(descriptor):

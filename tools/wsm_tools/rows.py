@@ -1,25 +1,15 @@
 """Lines of rows as they come, read as bytes, and the cells of a row."""
 from __future__ import annotations
 
-import os
 import re
-import sys
 from typing import Iterator, List, Optional, Sequence
 
-from .telling import BAD_READ, SHOWN, Ended, Signals
+from .telling import SHOWN, Signals
 
 LONGEST = 1 << 16  # bytes of a line; no row that `wsm` takes is as long
 MOST = 2**63 - 1
 HEADER = [b"r", b"KEY", b"TIME"]  # how a first row with the names of the fields begins
 MARK_OF_ORDER = b"\xef\xbb\xbf"
-
-
-def opened(path: Optional[str]) -> int:
-    """The descriptor of a file, or of standard input where there is none."""
-    try:
-        return os.open(path, os.O_RDONLY) if path else sys.stdin.fileno()
-    except OSError as why:
-        raise Ended(f"{path}: {why.strerror}", BAD_READ) from None
 
 
 def lines_of(descriptor: int, cut: Optional[List[bytes]] = None) -> Iterator[List[bytes]]:

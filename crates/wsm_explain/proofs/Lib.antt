@@ -2,3 +2,4 @@ mod Lists
 mod Places
 mod Walks
 mod NoFloats
+mod Few

@@ -1,5 +1,5 @@
 -- All numbers that are told are whole ones.
-use Rattle.std.proofs.Common.{◌≡◌, ℕ, Bool, true, false, ◌||◌, cond, List, [], ◌∷◌, map, ℤ, pos, negsuc, Option, Some, None, refl}
+use Rattle.std.proofs.Common.{◌≡◌, ℕ, zero, suc, Bool, true, false, ◌||◌, cond, List, [], ◌∷◌, ◌++◌, length, map, ℤ, pos, negsuc, Option, Some, None, refl}
 use Rattle.std.specs.Prelude.{option_map, take}
 use Rattle.std.specs.List.{filter}
 use Rattle.std.specs.Ordering.{int_eq}
@@ -7,6 +7,8 @@ use Rattle.std.specs.Str.{is_utf8}
 use Rattle.serde_json.specs.Data.{Data, null, string}
 use Rattle.serde_json.specs.View.{items_of}
 use Rattle.serde_json.specs.Written.{has_float, items_have_float}
+use Rattle.wsm_record.proofs.Lists.{or_left, or_right}
+use Rattle.wsm_record.specs.Name.{reserved_words}
 use Rattle.wsm_record.specs.Schema.{FieldType, Int, Truth, Enum, DeclaredField, Declared}
 use Rattle.wsm_record.specs.declared.words.Mode.{Mode}
 use Rattle.wsm_record.specs.declared.words.Form.{Form}
@@ -20,22 +22,24 @@ use Rattle.wsm_check.specs.declared.refusal.CheckFault.{CheckFault}
 use Rattle.wsm_check.specs.declared.refusal.CheckFault.TheVariants.{Exceeds}
 use Rattle.wsm_program.specs.declared.program.Costs.{Costs}
 use Rattle.wsm_program.specs.Program.{Header, Program}
+use Rattle.wsm_interval.specs.declared.Interval.{Interval}
 use Rattle.wsm_inputs.specs.declared.input.Input.{Input}
 use Rattle.wsm_inputs.specs.declared.input.Input.TheVariants as input
 use Rattle.wsm_inputs.specs.declared.end.InputRefusal.{InputRefusal}
 use Rattle.wsm_inputs.specs.declared.end.InputRefusal.TheVariants as refusals
 use Rattle.wsm_rules.specs.Costs.{needed}
+use Rattle.wsm_rules.specs.Rules.{range}
 use Rattle.wsm_explain.specs.declared.explaining.Judgement.{Judgement}
 use Rattle.wsm_explain.specs.declared.explaining.Judgement.TheVariants.{Refused, Rejected, Accepted}
 use Rattle.wsm_explain.specs.declared.parts.Span.{Span}
 use Rattle.wsm_explain.specs.declared.ways.Way.{Way}
-use Rattle.wsm_explain.specs.Json.{text_data, whole}
-use Rattle.wsm_explain.specs.Declarations.{clock_data, field_data, firing_data, range_data, trigger_data, type_data, typed_data, window_data}
+use Rattle.wsm_explain.specs.Json.{or_null, text_data, whole}
+use Rattle.wsm_explain.specs.Declarations.{clock_data, field_data, firing_data, interval_data, range_data, trigger_data, type_data, typed_data, window_data}
 use Rattle.wsm_explain.specs.Parts.{place_of, span_data, spans_of, text_in}
-use Rattle.wsm_explain.specs.Standing.{candidates, may_stand, standing_data, tokens_from}
+use Rattle.wsm_explain.specs.Standing.{candidates, may_stand, reserved_data, standing_data, tokens_from}
 use Rattle.wsm_explain.specs.Ways.{way_data}
-use Rattle.wsm_explain.specs.Program.{code_data, declares_data, instr_data, kind_data, output_data, program_data}
-use Rattle.wsm_explain.specs.Explained.{explained_data, fault_data, joins_data, joins_of, judged_data, limit_data, refusal_data, text_of, text_parts, text_sum_data}
+use Rattle.wsm_explain.specs.Program.{code_data, declares_data, instr_data, kind_data, output_data, program_data, ranges_data, ranges_up_to}
+use Rattle.wsm_explain.specs.Explained.{accepted_ranges, explained_data, fault_data, joins_data, joins_of, judged_data, limit_data, refusal_data, text_of, text_parts, text_sum_data}
 
 both : (a b : Bool) → a ≡ false → b ≡ false → (a || b) ≡ false
 both true b p q = p
@@ -118,6 +122,9 @@ limit_plain fault = refl
 standing_plain : (front : List ℕ) (p : Position) → has_float (standing_data front p) ≡ false
 standing_plain front p = listed string (λ w. refl) (filter (may_stand front p) candidates)
 
+words_plain : has_float reserved_data ≡ false
+words_plain = listed string (λ w. refl) reserved_words
+
 refusal_plain : (text : List ℕ) (why : InputRefusal) → has_float (refusal_data text why) ≡ false
 refusal_plain text (refusals.Text fault p) = both _ _ (standing_plain (take (place_of (tokens_from text p)) text) p) refl
 refusal_plain text (refusals.Check fault part) = both _ _ (limit_plain fault) refl
@@ -143,9 +150,26 @@ judged_plain (Refused why) = refl
 judged_plain (Rejected p why ways) = program_plain p (needed p)
 judged_plain (Accepted p ways) = program_plain p (needed p)
 
+maybe_plain : (x : Option Interval) → has_float (or_null interval_data x) ≡ false
+maybe_plain None = refl
+maybe_plain (Some x) = range_plain x.lo x.hi
+
+one_more : (ds : List Data) (d : Data) → items_have_float (items_of ds) ≡ false → has_float d ≡ false → items_have_float (items_of (ds ++ d ∷ [])) ≡ false
+one_more [] d all one = both _ _ one refl
+one_more (e ∷ ds) d all one = both _ _ (or_left (has_float e) _ all) (one_more ds d (or_right (has_float e) _ all) one)
+
+ranges_plain : (p : Program) (n : ℕ) → items_have_float (items_of (ranges_up_to p n)) ≡ false
+ranges_plain p zero = refl
+ranges_plain p (suc n) = one_more (ranges_up_to p n) _ (ranges_plain p n) (maybe_plain (range p n))
+
+accepted_plain : (j : Judgement) → has_float (accepted_ranges j) ≡ false
+accepted_plain (Refused why) = refl
+accepted_plain (Rejected p why ways) = refl
+accepted_plain (Accepted p ways) = ranges_plain p (length p.header.kinds)
+
 sum_plain : (i : Input) → has_float (text_sum_data i) ≡ false
 sum_plain (input.Text text) = refl
 sum_plain (input.Program bytes) = refl
 
 pub explained_plain : (i : Input) (j : Judgement) → has_float (explained_data i j) ≡ false
-explained_plain i j = both _ _ (fault_plain i j) (both _ _ (joins_plain j) (both _ _ (parts_plain i) (both _ _ (judged_plain j) (both _ _ (sum_plain i) refl))))
+explained_plain i j = both _ _ (fault_plain i j) (both _ _ (joins_plain j) (both _ _ (parts_plain i) (both _ _ (judged_plain j) (both _ _ (accepted_plain j) (both _ _ (sum_plain i) (both _ _ words_plain refl))))))

@@ -28,8 +28,8 @@ use Rattle.wsm_explain.specs.declared.ways.Way.{Way}
 use Rattle.wsm_explain.specs.Json.{natural, or_null, list_data}
 use Rattle.wsm_explain.specs.Limits.{limits_data}
 use Rattle.wsm_explain.specs.Parts.{parts_data, place_of}
-use Rattle.wsm_explain.specs.Program.{program_data}
-use Rattle.wsm_explain.specs.Standing.{length_at, standing_data, tokens_from}
+use Rattle.wsm_explain.specs.Program.{program_data, ranges_data}
+use Rattle.wsm_explain.specs.Standing.{length_at, reserved_data, standing_data, tokens_from}
 use Rattle.wsm_explain.specs.Sums.{text_sum}
 use Rattle.wsm_explain.specs.Ways.{way_data, way_of}
 
@@ -127,6 +127,11 @@ joins_data (Refused why) = null
 joins_data (Rejected p why ways) = joins_of (option_map (λ v. v.items) ways)
 joins_data (Accepted p ways) = joins_of (option_map (λ v. v.items) ways)
 
+abbrev pub accepted_ranges : Judgement → Data
+accepted_ranges (Refused why) = null
+accepted_ranges (Rejected p why ways) = null
+accepted_ranges (Accepted p ways) = ranges_data p
+
 abbrev pub verdict_word : Judgement → List ℕ
 verdict_word (Refused why) = codes "refused"
 verdict_word (Rejected p why ways) = codes "rejected"
@@ -142,7 +147,7 @@ text_sum_data (input.Program bytes) = null
 
 -- the version of this form
 abbrev pub version : ℕ
-version = 2
+version = 3
 
 abbrev pub explained_data : Input → Judgement → Data
 explained_data i j =
@@ -152,9 +157,11 @@ explained_data i j =
     (member (codes "limits") limits_data
     (member (codes "parts") (text_parts i)
     (member (codes "program") (judged_data j)
+    (member (codes "ranges") (accepted_ranges j)
     (member (codes "sum") (text_sum_data i)
     (member (codes "verdict") (string (verdict_word j))
-    (member (codes "version") (natural version) no_members))))))))
+    (member (codes "version") (natural version)
+    (member (codes "words") reserved_data no_members))))))))))
 
 -- one line
 abbrev pub explained_text : Input → Judgement → List ℕ

@@ -1,6 +1,7 @@
 -- A program and what it needs, as JSON.
-use Rattle.std.specs.Prelude.{List, codes}
-use Rattle.serde_json.specs.Data.{Data, string, object, member, no_members}
+use Rattle.std.specs.Prelude.{ℕ, zero, suc, List, [], ◌∷◌, ◌++◌, length, codes}
+use Rattle.serde_json.specs.Data.{Data, string, array, object, member, no_members}
+use Rattle.serde_json.specs.View.{items_of}
 use Rattle.wsm_record.specs.declared.words.Kind.{Kind}
 use Rattle.wsm_program.specs.declared.instr.Instr.{Instr}
 use Rattle.wsm_program.specs.declared.program.Costs.{Costs}
@@ -9,9 +10,10 @@ use Rattle.wsm_program.specs.Text.{instr_text}
 use Rattle.wsm_query.specs.Print.{kind_word}
 use Rattle.wsm_sums.specs.Crc.{sum_of}
 use Rattle.wsm_bytecode.specs.Spelling.{spelling}
+use Rattle.wsm_rules.specs.Rules.{range}
 use Rattle.wsm_record.specs.Schema.{Declared}
-use Rattle.wsm_explain.specs.Json.{natural, text_data, list_data}
-use Rattle.wsm_explain.specs.Declarations.{clock_data, costs_data, field_data, firing_data, type_data, window_data}
+use Rattle.wsm_explain.specs.Json.{natural, or_null, text_data, list_data}
+use Rattle.wsm_explain.specs.Declarations.{clock_data, costs_data, field_data, firing_data, interval_data, type_data, window_data}
 
 abbrev pub kind_data : Kind → Data
 kind_data k = string (kind_word k)
@@ -30,6 +32,18 @@ code_data p =
     (member (codes "fire") (section_data p.fire)
     (member (codes "update") (section_data p.update)
     (member (codes "where") (section_data p.selection) no_members))))
+
+-- what an accumulator may hold in a firing; null where it is none of numbers
+abbrev pub range_data : Program → ℕ → Data
+range_data p a = or_null interval_data (range p a)
+
+-- those of so many accumulators, from the first on
+abbrev pub ranges_up_to : Program → ℕ → List Data
+ranges_up_to p zero = []
+ranges_up_to p (suc n) = ranges_up_to p n ++ range_data p n ∷ []
+
+abbrev pub ranges_data : Program → Data
+ranges_data p = array (items_of (ranges_up_to p (length p.header.kinds)))
 
 abbrev pub declares_data : Declared → Data
 declares_data d =

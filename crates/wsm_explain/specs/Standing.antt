@@ -67,6 +67,9 @@ candidates =
     codes "a name" ∷ codes "a number" ∷ codes "," ∷ codes ";" ∷ codes "(" ∷ codes ")" ∷ codes "." ∷ codes ".." ∷ codes "+" ∷ codes "-" ∷ codes "*"
     ∷ codes "/" ∷ codes "%" ∷ codes "=" ∷ codes "<>" ∷ codes "<" ∷ codes "<=" ∷ codes ">" ∷ codes ">=" ∷ (reserved_words ++ codes "the end of the text" ∷ [])
 
+abbrev pub reserved_data : Data
+reserved_data = list_data string reserved_words
+
 -- what may stand at a position, behind the text up to there
 abbrev pub standing_data : List ℕ → Position → Data
 standing_data front p = list_data string (filter (may_stand front p) candidates)

@@ -8,8 +8,8 @@ ghost use Rattle.wsm_explain.specs.Explained as spec;
 
 use crate::limits::limits_value;
 use crate::parts::{front, parts_value};
-use crate::program::program_value;
-use crate::standing::{spot_at, standing_value};
+use crate::program::{program_value, ranges_value};
+use crate::standing::{reserved_value, spot_at, standing_value};
 use crate::sums::text_sum;
 use crate::ways::{Way, ways_of, ways_value};
 use serde_json::{Value, json};
@@ -23,7 +23,7 @@ use wsm_tokens::{ParseRefusal, Position};
 use wsm_verifier::{Costed, needed, verify_costed};
 
 /// The version of what is told.
-const VERSION: u32 = 2;
+const VERSION: u32 = 3;
 
 /// What is found of an input.
 #[derive(Drop)]
@@ -122,16 +122,20 @@ fn explained_value(
     let limits = limits_value(alloc)?;
     let parts = text_parts(alloc, input)?;
     let program = judged_value(alloc, judgement)?;
+    let ranges = ranges_of(alloc, judgement)?;
     let sum = text_sum_value(alloc, input)?;
+    let words = reserved_value(alloc)?;
     json!(in alloc; {
         "fault": fault,
         "joins": joins,
         "limits": limits,
         "parts": parts,
         "program": program,
+        "ranges": ranges,
         "sum": sum,
         "verdict": verdict_word(judgement),
-        "version": VERSION
+        "version": VERSION,
+        "words": words
     })
 }
 
@@ -178,6 +182,17 @@ fn judged_value(alloc: Global, judgement: &Judgement) -> Result<Value, AllocErro
         Judgement::Accepted { program, .. } => {
             program_value(alloc, program.program(), program.costs())
         }
+    }
+}
+
+// What its accumulators may hold, where it is accepted.
+fn ranges_of(alloc: Global, judgement: &Judgement) -> Result<Value, AllocError>
+    ensures { IfOk result (λ v. view v ≡ spec.accepted_ranges judgement.now) }
+{
+    match judgement {
+        Judgement::Refused(_) => Ok(Value::Null),
+        Judgement::Rejected { .. } => Ok(Value::Null),
+        Judgement::Accepted { program, .. } => ranges_value(alloc, program),
     }
 }
 

@@ -16,7 +16,7 @@
 //! let input = Input::Text(text);
 //! let judgement = explain(alloc, input)?;
 //! let told = explained_text(alloc, input, &judgement)?;
-//! assert!(rt; told.as_str().starts_with("{\"fault\":null,\"joins\":[\"sum\",\"greatest\"],\"parts\":["));
+//! assert!(rt; told.as_str().starts_with("{\"fault\":null,\"joins\":[\"sum\",\"greatest\"],\"limits\":{"));
 //! ```
 //!
 //! - `explaining`: the judgement, and the value that is told of it

@@ -6,9 +6,10 @@ ghost use Rattle.wsm_explain.specs.Limits.{limits_data};
 
 use serde_json::{Value, json};
 use std::alloc::{AllocError, Global};
-use wsm_record::limits::{LATEST_TIME, LONGEST_SPAN, MAX_COLUMNS, MAX_FIELDS, MAX_NAMES};
+use wsm_record::limits::{LATEST_TIME, LONGEST_SPAN, MAX_COLUMNS, MAX_FIELDS, MAX_NAME, MAX_NAMES};
 
-/// How much a query may have: columns, fields, keys and names of a field, and the latest time and the longest span.
+/// How much a query may have: columns, fields, bytes of a name, keys and names of a field, the latest time and the longest
+/// span.
 pub fn limits_value(alloc: Global) -> Result<Value, AllocError>
     ensures { IfOk result (λ v. view v ≡ limits_data) }
 {
@@ -17,6 +18,7 @@ pub fn limits_value(alloc: Global) -> Result<Value, AllocError>
         "fields": MAX_FIELDS,
         "latest": LATEST_TIME,
         "longest": LONGEST_SPAN,
+        "name": MAX_NAME,
         "names": MAX_NAMES
     })
 }

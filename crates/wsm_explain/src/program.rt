@@ -1,24 +1,27 @@
 //! A program and what it needs, as JSON.
 
-ghost use Rattle.std.specs.Prelude.{◌≡◌, IfOk};
+ghost use Rattle.std.specs.Prelude.{◌≡◌, ◌≤◌, IfOk, map};
 ghost use Rattle.serde_json.specs.View.{view};
 ghost use Rattle.wsm_program.specs.View.{header_of};
 ghost use Rattle.wsm_query.specs.Print as rule;
 ghost use Rattle.wsm_sums.specs.Crc.{sum_of};
 ghost use Rattle.wsm_bytecode.specs.Spelling.{spelling};
-ghost use Rattle.wsm_explain.specs.Json.{list_data};
-ghost use Rattle.wsm_explain.specs.Declarations.{type_data};
+ghost use Rattle.wsm_record.specs.declared.limits.TheConstants.{MAX_ACCUMULATORS};
+ghost use Rattle.wsm_explain.specs.Json.{list_data, or_null};
+ghost use Rattle.wsm_explain.specs.Declarations.{interval_data, type_data};
 ghost use Rattle.wsm_explain.specs.Program as spec;
 
 use crate::declared::{
-    clock_value, costs_value, fields_value, firing_value, type_value, window_value,
+    clock_value, costs_value, fields_value, firing_value, interval_value, type_value, window_value,
 };
 use crate::texts::names_value;
 use serde_json::{Value, json};
 use std::alloc::{AllocError, Global};
 use wsm_bytecode::encode;
+use wsm_interval::Interval;
 use wsm_program::{CellType, Costs, Header, Instr, Program, SectionId};
 use wsm_record::{Kind, Schema};
+use wsm_rules::Verified;
 use wsm_sums::Crc32;
 
 /// A program, with what it needs.
@@ -40,6 +43,34 @@ pub fn program_value(alloc: Global, program: &Program, needs: Costs) -> Result<V
         "output": output,
         "sum": sum
     })
+}
+
+/// What each accumulator of an accepted program may hold in a firing; null for one of truths.
+pub fn ranges_value(alloc: Global, program: &Verified) -> Result<Value, AllocError>
+    ensures { IfOk result (λ v. view v ≡ spec.ranges_data program.now) }
+{
+    let count = program.program().header().kinds.len();
+    Ok(Value::from(ranges_up_to(alloc, program, count)?))
+}
+
+fn ranges_up_to(alloc: Global, program: &Verified, count: usize) -> Result<Vec<Value>, AllocError>
+    requires { count ≤ MAX_ACCUMULATORS }
+    ensures { IfOk result (λ list. map view list.items ≡ spec.ranges_up_to program.now count) }
+{
+    let mut list = Vec::with_capacity(alloc, count)?;
+    for accumulator in 0..count {
+        list.push(maybe_interval(alloc, program.range(accumulator as u8))?)?;
+    }
+    Ok(list)
+}
+
+fn maybe_interval(alloc: Global, range: Option<Interval>) -> Result<Value, AllocError>
+    ensures { IfOk result (λ v. view v ≡ or_null interval_data range) }
+{
+    match range {
+        Some(interval) => interval_value(alloc, interval),
+        None => Ok(Value::Null),
+    }
 }
 
 // The sum of a program's bytes in the version that is written.

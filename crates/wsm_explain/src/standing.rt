@@ -88,6 +88,9 @@ const CANDIDATES: [&str; 69] = [
     "the end of the text",
 ];
 
+/// Where the words of the language begin among them; the end stands behind these.
+const FIRST_WORD: usize = 19;
+
 /// Where a token of a text stands.
 #[derive(Clone, Copy)]
 pub struct Spot {
@@ -137,6 +140,23 @@ fn length_at(text: &[u8], reader: &mut Reader) -> usize
     }
     reader.advance();
     between(text, begin, place_of(reader)).len()
+}
+
+/// The words of the language, which are no names.
+pub fn reserved_value(alloc: Global) -> Result<Value, AllocError>
+    ensures { IfOk result (λ v. view v ≡ spec.reserved_data) }
+{
+    list_value(alloc, &CANDIDATES[FIRST_WORD..CANDIDATES.len() - 1])
+}
+
+fn list_value(alloc: Global, words: &[&str]) -> Result<Value, AllocError>
+    ensures { IfOk result (λ v. view v ≡ list_data string (map (λ w. w.now) words.now)) }
+{
+    let mut list = Vec::with_capacity(alloc, words.len())?;
+    for word in words {
+        list.push(Value::try_from_str(alloc, word)?)?;
+    }
+    Ok(Value::from(list))
 }
 
 /// What may stand at a position behind the text up to there.
