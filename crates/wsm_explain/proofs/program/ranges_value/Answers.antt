@@ -9,5 +9,5 @@ use Rattle.wsm_explain.proofs.program.ranges_value.Goals as goal
 pub ranges_up_to-requires : goal.ranges_up_to-requires
 ranges_up_to-requires c =
     let kinds = ap (λ (h : Header). length h.kinds) c.header.ensures.header in
-    let few = few_kinds c.args.program.now c.header.ensures.lawful in
+    let few = few_kinds c.program.result.now c.header.ensures.lawful in
     omega (arith, kinds, few)
