@@ -1,7 +1,6 @@
--- What an event does, by what is replied to it.
-use Rattle.std.specs.Prelude.{Some, is_none, if◌then◌else◌}
+-- What an event does, by what is told of it.
+use Rattle.std.specs.Prelude.{Some, Bool, if◌then◌else◌}
 use Rattle.wsm_record.specs.Event.{Event, Record, Watermark}
-use Rattle.wsm_engine.specs.declared.reply.Reply.{Reply}
 use Rattle.wsm_keep.specs.declared.what.What.{What}
 use Rattle.wsm_keep.specs.declared.what.What.TheVariants.{Selected, Accepted, Idle}
 
@@ -15,5 +14,6 @@ abbrev pub what_accepted : Event → What
 what_accepted (Watermark (Some source) time) = Accepted source
 what_accepted e = Idle
 
-abbrev pub what_by : Reply → Event → What
-what_by r e = if r.selected then what_selected e else (if is_none r.refusal then what_accepted e else Idle)
+-- by whether an event is a record that is selected, and whether it is taken
+abbrev pub what_told : Bool → Bool → Event → What
+what_told selected taken e = if selected then what_selected e else (if taken then what_accepted e else Idle)

@@ -3,7 +3,7 @@
 #![tactic(auto)]
 
 pub use cutter::Cutter;
-pub use judge::judge_event;
+pub use judge::{judge_event, judge_told};
 
 mod cutter;
 mod judge;

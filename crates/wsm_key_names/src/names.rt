@@ -50,7 +50,7 @@ impl Model for KeyNames {
 }
 
 impl KeyNames {
-    ghost use Rattle.std.specs.Prelude.{◌≡◌, ◌<◌, ◌+◌, ◌++◌, ◌∷◌, ◌⊎◌, ◌^◌, [], ℕ, List, bytes_eq, if◌then◌else◌, length, not, position, true};
+    ghost use Rattle.std.specs.Prelude.{◌≡◌, ◌<◌, ◌+◌, ◌++◌, ◌∷◌, ◌⊎◌, ◌^◌, [], ℕ, List, bytes_eq, if◌then◌else◌, length, map, not, position, true};
     ghost use Rattle.std.specs.Prelude.{None, Err, IfErr, IfOk, IfSome, Ok, OnErr, OnOk, Some};
     ghost use Rattle.wsm_record.specs.Guesses.{AreBytes, spelled};
     ghost use Rattle.wsm_record.specs.Name.{is_among};
@@ -69,6 +69,33 @@ impl KeyNames {
             quoted: Vec::new(alloc),
             guesses: Guesses::new(alloc),
         }
+    }
+
+    /// The names that others have come to, in their order; none where one of them is no name or stands twice.
+    ///
+    /// # Errors
+    ///
+    /// Memory was refused.
+    pub fn resume(alloc: Global, names: &[Vec<u8>]) -> Result<Option<KeyNames>, AllocError>
+        ensures { IfOk result (λ o. IfSome o (λ known. known ≡ map (λ v. v.items) names.now)) }
+    {
+        let mut known = KeyNames::new(alloc);
+        for name in names {
+            if !known.add_known(name)? {
+                return Ok(None);
+            }
+        }
+        Ok(Some(known))
+    }
+
+    // Adds what is a name and isn't there, where there is room for it.
+    fn add_known(&mut self, name: &[u8]) -> Result<bool, AllocError>
+        ensures { IfOk result (λ is_new. is_new ≡ true → self.new ≡ self.old ++ name.now ∷ []) }
+    {
+        if !is_key_name(name) || MOST <= self.names.len() {
+            return Ok(false);
+        }
+        self.add(name)
     }
 
     /// The names of a text with a name a line: 1 to 255 bytes without a line feed, whichever they are.
@@ -155,9 +182,9 @@ impl KeyNames {
         }
     }
 
-    // The bytes of the name of a number, or no byte.
+    /// The bytes of the name of a number; of a number that no name has, none.
     #[inline(always)]
-    fn text_of(&self, number: usize) -> &[u8]
+    pub fn text_of(&self, number: usize) -> &[u8]
         ensures { result.now ≡ name_at self.now number }
     {
         match self.names.as_slice().get(number) {

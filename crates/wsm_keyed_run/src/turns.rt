@@ -78,12 +78,12 @@ impl KeyedTurns {
         ensures adds { (p : Program) (before : List Row) → Ready p self.old before (Ok (numbered self.old.events)) →
             OnOk result (Adds p self.old self.new before (Ok (numbered self.old.events))) }
     {
-        let refusal = self.parts.feed(
+        let reply = self.parts.feed(
             self.events.part(),
             self.events.event(),
             self.events.values_fit(),
         )?;
-        self.tell(refusal)?;
+        self.tell(reply.refusal)?;
         add_rows(&self.parts, self.events.names(), &mut self.lines)
     }
 

@@ -91,8 +91,8 @@ impl Taker for KeyedTold {
             return Err(AllocError);
         }
         let values_fit = has_fitting_values(self.parts.schema(), event);
-        let refusal = self.parts.feed_numbered(event, values_fit)?;
-        self.tell(number, refusal)?;
+        let reply = self.parts.feed_numbered(event, values_fit)?;
+        self.tell(number, reply.refusal)?;
         add_rows(&self.parts, &self.names, &mut self.lines)
     }
 }

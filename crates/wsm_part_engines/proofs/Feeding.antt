@@ -1,5 +1,5 @@
 -- What parts answer to an event, by what their front decides and their engines take.
-use Rattle.std.proofs.Common.{◌≡◌, ◌≢◌, ℕ, ◌+◌, true, List, [], ◌∷◌, length, map, ℤ, Option, Some, None, Result, Ok, Err, refl, sym, ap, subst, ◌∙◌}
+use Rattle.std.proofs.Common.{◌≡◌, ◌≢◌, ℕ, ◌+◌, Bool, true, false, List, [], ◌∷◌, length, map, ℤ, Option, Some, None, Result, Ok, Err, refl, sym, ap, subst, ◌∙◌}
 use Rattle.std.specs.Prelude.{IsTrue}
 use Rattle.wsm_record.specs.declared.event.Value.{Value}
 use Rattle.wsm_record.specs.declared.words.Form.TheVariants.{Panes}
@@ -11,10 +11,12 @@ use Rattle.wsm_admission.specs.Admission as admission
 use Rattle.wsm_admission.specs.Admission.{answer, counter, decision, marks_with}
 use Rattle.wsm_admission.specs.Clock.{least}
 use Rattle.wsm_semantics.specs.declared.out_row.OutRow.{OutRow}
-use Rattle.wsm_semantics.specs.Query.{verdict_on}
+use Rattle.wsm_semantics.specs.Query.{effect_of, verdict_on}
 use Rattle.wsm_semantics.specs.Relation.{turn_rows}
 use Rattle.wsm_program.specs.Program.{Program, is_program}
+use Rattle.wsm_machine.specs.Meaning.{query_of}
 use Rattle.wsm_engine.specs.State.{State as EngineState}
+use Rattle.wsm_engine.specs.Meaning.{selects_record}
 use Rattle.wsm_key_parts.specs.Parts.{fed_before, verdict_by}
 use Rattle.wsm_part_programs.specs.Keyless.{IsKeyless}
 use Rattle.wsm_part_programs.specs.Names.{of_names}
@@ -23,8 +25,9 @@ use Rattle.wsm_part_engines.specs.Fits.{AreNamed, FitsBy, IsFed, IsPlaced, by_nu
 use Rattle.wsm_part_engines.specs.Slots.{AreOf, FeedsAll, rows_of}
 use Rattle.wsm_part_engines.specs.Ordered.{all_places, arranged, places_from, row_at}
 use Rattle.wsm_part_engines.specs.Takes.{Took}
-use Rattle.wsm_part_engines.specs.Answers.{Feeds}
+use Rattle.wsm_part_engines.specs.Answers.{Feeds, IsSelected}
 use Rattle.wsm_part_engines.proofs.Parted.{IsRecord, IsWatermark, is_record, is_watermark, none_refuses, one_refuses}
+use Rattle.wsm_part_engines.proofs.Selecting.{by_refusal, by_watermark, selected_alike}
 use Rattle.wsm_part_engines.proofs.Turns.{answered, before_of, front_next, record_before, record_rows, record_turn, refused_turn, rows_there, verdict_there, watermark_rows, watermark_turn}
 
 module _ (p : Program) (whole : IsTrue (is_program p)) (panes_form : p.header.form ≡ Panes) (keyless : IsKeyless p) where
@@ -84,7 +87,20 @@ module _ (p : Program) (whole : IsTrue (is_program p)) (panes_form : p.header.fo
       refused_by : (r : Refusal) → a ≡ Err r → verdict names past numbered ≡ Some r
       refused_by r is = one_refuses (parts_after p names past).front.mark (least (marks_with (parts_after p names past).front.marks numbered)) numbered (verdict names past numbered) r (sym answers ∙ is)
 
+    -- whether it is selected, by each names
+    abbrev Chooses : Bool → Type 0
+    Chooses b = (names : List (List ℕ)) (past : List Event) → FitsBy names old past → is_named names numbered ≡ true → b ≡ selects_record (effect_of (of_names p names) past numbered)
+
+    chooses_by : (b : Bool) → Chooses b → IsSelected old numbered b
+    chooses_by b chooses r names past is known =
+        subst (λ (x : Program). b ≡ selects_record (effect_of (of_names x names) past numbered)) is.program (chooses names past (is.kept names is.named) known)
+
     -- ---- a refused event
+
+    pub refused_selects : (r : Refusal) → a ≡ Err r → IsSelected old numbered false
+    refused_selects r is =
+        chooses_by false
+        (λ names past fits known. by_refusal (of_names p names) past numbered r (sym (verdict_there p whole panes_form keyless names past numbered) ∙ refused_by names past fits known r is))
 
     pub refused_feeds : (r : Refusal) → a ≡ Err r → news ≡ engines → fired' ≡ fired → rows' ≡ [] → Feeds old new numbered (Some r)
     refused_feeds r is same_engines same_fired none =
@@ -132,6 +148,25 @@ module _ (p : Program) (whole : IsTrue (is_program p)) (panes_form : p.header.fo
         record_there known =
             is_record (parts_after p names past).front.mark (least (marks_with (parts_after p names past).front.marks numbered)) numbered (verdict names past numbered) (sym (answers names past fits known) ∙ is)
 
+      module _ (selected : Bool) (picks : (before held : List Event) → IsFed (engine_at engines part) before → fed_before p.header.clock.start marks e before ≡ Some held → selected ≡ selects_record (effect_of (query_of p) held e)) where
+        selects_by : (names : List (List ℕ)) (past : List Event) → FitsBy names old past → (e0 : Event) → e ≡ e0 → IsPlaced block e0 → is_named names (by_number block part e0) ≡ true → verdict names past (by_number block part e0) ≡ None
+            → IsRecord (by_number block part e0) → selected ≡ selects_record (effect_of (of_names p names) past (by_number block part e0))
+        selects_by names past fits (Record None t vs) here placed known taken kind = absurd (cc)
+        selects_by names past fits (Record (Some k) t vs) here placed known taken kind =
+            let fed_there = (parts_after p names past).fed part in
+            let held = before_of p.header.clock.start (parts_after p names past).front.marks fed_there in
+            picks fed_there held (fits.engines part)
+            ((λ i. fed_before p.header.clock.start ((same_marks ∙ ap (λ (f : admission.State). f.marks) fits.front) i) (here i) fed_there)
+            ∙ record_before p.header.clock.start (parts_after p names past).front.marks (Some k) t vs fed_there)
+            ∙ ap (λ (f : Event). selects_record (effect_of (query_of p) held f)) here
+            ∙ selected_alike p whole panes_form keyless names past part k t vs placed known taken
+        selects_by names past fits (Watermark source t) here placed known taken kind = absurd kind
+
+        pub record_selects : IsSelected old numbered selected
+        record_selects =
+            chooses_by selected
+            (λ names past fits known. selects_by names past fits e refl place known (taken_by names past fits known admitted.Record is) (record_there names past fits known))
+
       pub record_feeds : Feeds old new numbered None
       record_feeds =
           feeds_by None
@@ -159,6 +194,17 @@ module _ (p : Program) (whole : IsTrue (is_program p)) (panes_form : p.header.fo
         watermark_there : (known : is_named names numbered ≡ true) → IsWatermark numbered
         watermark_there known =
             is_watermark (parts_after p names past).front.mark (least (marks_with (parts_after p names past).front.marks numbered)) numbered (verdict names past numbered) x y (sym (answers names past fits known) ∙ is)
+
+      selects_none : (names : List (List ℕ)) (past : List Event) (e0 : Event) → IsWatermark (by_number block part e0) → false ≡ selects_record (effect_of (of_names p names) past (by_number block part e0))
+      selects_none names past (Record k t vs) kind = absurd kind
+      selects_none names past (Watermark source t) kind = by_watermark (of_names p names) past source t
+
+      watermark_here : (names : List (List ℕ)) (past : List Event) → FitsBy names old past → is_named names numbered ≡ true → IsWatermark numbered
+      watermark_here names past fits known =
+          is_watermark (parts_after p names past).front.mark (least (marks_with (parts_after p names past).front.marks numbered)) numbered (verdict names past numbered) x y (sym (answers names past fits known) ∙ is)
+
+      pub watermark_selects : IsSelected old numbered false
+      watermark_selects = chooses_by false (λ names past fits known. selects_none names past e (watermark_here names past fits known))
 
       pub watermark_feeds : Feeds old new numbered None
       watermark_feeds =

@@ -6,5 +6,6 @@ mod Parted
 mod PlacedRows
 mod ReadyEngines
 mod RowPlaces
+mod Selecting
 mod TurnRows
 mod Turns

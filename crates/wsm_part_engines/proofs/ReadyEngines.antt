@@ -8,17 +8,18 @@ use Rattle.wsm_record.specs.Event.{Event, Record, Watermark}
 use Rattle.wsm_admission.specs.Clock.{fits_declared}
 use Rattle.wsm_semantics.specs.declared.out_row.OutRow.{OutRow}
 use Rattle.wsm_semantics.specs.Firings.{firings}
+use Rattle.wsm_semantics.specs.Query.{effect_of}
 use Rattle.wsm_semantics.specs.Relation.{turn_rows}
 use Rattle.wsm_semantics.proofs.Each.{all-append}
 use Rattle.wsm_machine.specs.Meaning.{query_of}
 use Rattle.wsm_program.specs.Program.{Program, is_program}
 use Rattle.wsm_bytecode.specs.Spelling.{spelling}
 use Rattle.wsm_engine.specs.State.{State as EngineState}
-use Rattle.wsm_engine.specs.Meaning.{Fits as EngineFits}
+use Rattle.wsm_engine.specs.Meaning.{Fits as EngineFits, selects_record}
 use Rattle.wsm_key_parts.specs.OpenedLate.{openers}
 use Rattle.wsm_key_parts.specs.Parts.{fed_before}
 use Rattle.wsm_part_engines.specs.Fits.{engine_at, IsFed}
-use Rattle.wsm_part_engines.specs.Slots.{AreOf, IsOf, IsJudged, Feeds, FeedsAll, FeedsOne, Holds, Opens, fed_with, fired_on, rows_of, rows_on}
+use Rattle.wsm_part_engines.specs.Slots.{AreOf, IsOf, IsJudged, Feeds, FeedsAll, FeedsOne, Holds, Opens, fed_with, fired_on, rows_of, rows_on, selected_on}
 use Rattle.wsm_part_engines.specs.Ordered.{IsRow, places_from, all_places, are_of_one, arranged, in_row_order}
 use Rattle.wsm_part_engines.specs.Takes.{Took}
 use Rattle.wsm_part_engines.proofs.RowPlaces.{all_ordered}
@@ -124,16 +125,40 @@ module _ (p : Program) (slot new : Option EngineState) (e : Event) (panes : ℕ)
         fired = feeds.fired before holds ∙ ap (λ (t : Option EngineState). fired_on t before e) is ∙ ap (λ (q : Program). length (firings (query_of q) before e)) own;
       }
 
-pub took : (p : Program) (bytes : List ℕ) (marks : List ℤ) (part : ℕ) (olds mids : List (Option EngineState)) → Opens bytes marks part olds mids → IsTrue (is_program p) → bytes ≡ spelling p → AreOf p olds
-    → (new : Option EngineState) (e : Event) (panes : ℕ) → Feeds (engine_at mids part) new e panes
-    → (fed before : List Event) → IsFed (engine_at olds part) fed → fed_before p.header.clock.start marks e fed ≡ Some before → Took p before e new panes
-took p bytes marks part olds mids opens lawful spelled of new e panes feeds fed before = by_slot (engine_at olds part) refl where
-  by_slot : (slot : Option EngineState) → engine_at olds part ≡ slot → IsFed slot fed → fed_before p.header.clock.start marks e fed ≡ Some before → Took p before e new panes
-  by_slot None is none there =
-      let opened = opens.opened is in
-      let own : opened.0.program ≡ p = opened.2.program p lawful spelled in
-      took_by p (engine_at mids part) new e panes feeds opened.0 before opened.1 own
-      (subst (EngineFits opened.0) (ap (λ (q : Program). openers q.header.clock.start 0 marks) own ∙ none_before p.header.clock.start marks e before fed none there) opened.2.fits)
-  by_slot (Some s) is held there =
-      took_by p (engine_at mids part) new e panes feeds s before (opens.kept s is) (subst (IsOf p) is (of part))
-      (subst (EngineFits s) (some_before p.header.clock.start marks e before fed held.1 held.2 held.3 there) held.0)
+-- a part's engine that is open runs the program behind what the part was fed
+record IsOpen (p : Program) (slot : Option EngineState) (before : List Event) : Type 0 where
+  engine : EngineState
+  is : slot ≡ Some engine
+  own : engine.program ≡ p
+  fits : EngineFits engine before
+
+module _ (p : Program) (bytes : List ℕ) (marks : List ℤ) (part : ℕ) (olds mids : List (Option EngineState)) (opens : Opens bytes marks part olds mids) (lawful : IsTrue (is_program p)) (spelled : bytes ≡ spelling p) (of : AreOf p olds)
+    (e : Event) (fed before : List Event) (held : IsFed (engine_at olds part) fed) (there : fed_before p.header.clock.start marks e fed ≡ Some before) where
+  is_open : IsOpen p (engine_at mids part) before
+  is_open = by_slot (engine_at olds part) refl held
+    where
+      by_slot : (slot : Option EngineState) → engine_at olds part ≡ slot → IsFed slot fed → IsOpen p (engine_at mids part) before
+      by_slot None is none =
+          let opened = opens.opened is in
+          let own : opened.0.program ≡ p = opened.2.program p lawful spelled in
+          record {
+            engine = opened.0;
+            is = opened.1;
+            own = own;
+            fits = subst (EngineFits opened.0) (ap (λ (q : Program). openers q.header.clock.start 0 marks) own ∙ none_before p.header.clock.start marks e before fed none there) opened.2.fits;
+          }
+      by_slot (Some s) is held = record {
+        engine = s;
+        is = opens.kept s is;
+        own = subst (IsOf p) is (of part);
+        fits = subst (EngineFits s) (some_before p.header.clock.start marks e before fed held.1 held.2 held.3 there) held.0;
+      }
+
+  pub took : (new : Option EngineState) (panes : ℕ) → Feeds (engine_at mids part) new e panes → Took p before e new panes
+  took new panes feeds = took_by p (engine_at mids part) new e panes feeds is_open.engine before is_open.is is_open.own is_open.fits
+
+  pub chosen : (selected : Bool) → ((past : List Event) → Holds (engine_at mids part) past → selected ≡ selected_on (engine_at mids part) past e) → selected ≡ selects_record (effect_of (query_of p) before e)
+  chosen selected by =
+      by before (subst (λ (t : Option EngineState). Holds t before) (sym is_open.is) is_open.fits)
+      ∙ ap (λ (t : Option EngineState). selected_on t before e) is_open.is
+      ∙ ap (λ (q : Program). selects_record (effect_of (query_of q) before e)) is_open.own

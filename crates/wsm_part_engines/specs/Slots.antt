@@ -1,17 +1,18 @@
 -- What an event does to the engines of parts that are fed it.
-use Rattle.std.specs.Prelude.{◌≡◌, ◌≢◌, ℕ, ◌+◌, ℤ, Bool, List, [], ◌∷◌, length, Option, Some, None, IsTrue}
+use Rattle.std.specs.Prelude.{◌≡◌, ◌≢◌, ℕ, ◌+◌, ℤ, Bool, false, List, [], ◌∷◌, length, Option, Some, None, IsTrue}
 use Rattle.std.specs.List.{range_with_len, sum_by}
 use Rattle.wsm_record.specs.Event.{Event}
 use Rattle.wsm_admission.specs.Clock.{fits_declared}
 use Rattle.wsm_admission.specs.Admission.{counter}
 use Rattle.wsm_semantics.specs.declared.out_row.OutRow.{OutRow}
 use Rattle.wsm_semantics.specs.Firings.{firings}
+use Rattle.wsm_semantics.specs.Query.{effect_of}
 use Rattle.wsm_semantics.specs.Relation.{turn_rows}
 use Rattle.wsm_program.specs.Program.{Program, is_program}
 use Rattle.wsm_bytecode.specs.Spelling.{spelling}
 use Rattle.wsm_machine.specs.Meaning.{query_of}
 use Rattle.wsm_engine.specs.State.{State as EngineState}
-use Rattle.wsm_engine.specs.Meaning.{Fits as EngineFits}
+use Rattle.wsm_engine.specs.Meaning.{Fits as EngineFits, selects_record}
 use Rattle.wsm_key_parts.specs.OpenedLate.{openers}
 use Rattle.wsm_part_engines.specs.Fits.{engine_at}
 
@@ -61,6 +62,11 @@ rows_on (Some s) fed e = turn_rows (query_of s.program) fed e
 abbrev pub fired_on : Option EngineState → List Event → Event → ℕ
 fired_on None fed e = 0
 fired_on (Some s) fed e = length (firings (query_of s.program) fed e)
+
+-- and whether it selects a record
+abbrev pub selected_on : Option EngineState → List Event → Event → Bool
+selected_on None fed e = false
+selected_on (Some s) fed e = selects_record (effect_of (query_of s.program) fed e)
 
 -- an engine, if there is one, takes an event, and so many panes fire
 pub record Feeds (old new : Option EngineState) (e : Event) (panes : ℕ) : Type 0 where

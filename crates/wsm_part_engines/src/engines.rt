@@ -9,13 +9,13 @@ ghost use Rattle.wsm_program.specs.Program.{Program as AnyProgram, is_program};
 ghost use Rattle.wsm_part_engines.specs.Fits.{number_of};
 ghost use Rattle.wsm_part_engines.specs.Ordered.{row_at, IsRow};
 ghost use Rattle.wsm_part_engines.specs.Ready.{IsReady, MayTake};
-ghost use Rattle.wsm_part_engines.specs.Takes.{TakesRecord, TakesWatermark};
+ghost use Rattle.wsm_part_engines.specs.Takes.{SelectsRecord, TakesRecord, TakesWatermark};
 ghost use Rattle.std.specs.List.{AllByRecursion};
 
 use crate::opening::open_part;
 use crate::ordering::{place_all, place_one};
 use crate::row_place::RowPlace;
-use crate::slots::{feed_all, feed_one, rows};
+use crate::slots::{Fed, feed_all, feed_one, rows};
 use std::alloc::{AllocError, Global};
 use wsm_bytecode::encode;
 use wsm_engine::Engine;
@@ -63,8 +63,7 @@ impl Engines {
         })
     }
 
-    /// Takes a record: feeds it to the engine of its part, which is opened at the marks of the sources if the part has none, and
-    /// answers how many panes fire.
+    /// Takes a record: feeds it to the engine of its part, which is opened at the marks of the sources if the part has none.
     ///
     /// # Errors
     ///
@@ -75,20 +74,22 @@ impl Engines {
         part: u32,
         event: &Event,
         values_fit: bool,
-    ) -> Result<u64, AllocError>
+    ) -> Result<Fed, AllocError>
         requires may { MayTake values_fit (event_of event.now) self.old }
         requires few { length marks.now ≤ MAX_SOURCES }
         requires times { All IsTime marks.now }
         requires cleared { self.old.order.items ≡ [] }
         ensures ready { (p : AnyProgram) → IsTrue (is_program p) → IsReady p self.old → IsReady p self.new }
         ensures takes { (p : AnyProgram) → IsTrue (is_program p) → IsReady p self.old →
-            IfOk result (λ panes. TakesRecord p marks.now part (event_of event.now) self.old self.new panes) }
+            IfOk result (λ fed. TakesRecord p marks.now part (event_of event.now) self.old self.new fed.fired) }
+        ensures selects { (p : AnyProgram) → IsTrue (is_program p) → IsReady p self.old →
+            IfOk result (λ fed. SelectsRecord p marks.now part (event_of event.now) self.old fed.selected) }
     {
         let place = part as usize;
         open_part(self.alloc, &self.bytes, marks, &mut self.slots, place)?;
-        let fired = feed_one(&mut self.slots, place, event, values_fit);
+        let fed = feed_one(&mut self.slots, place, event, values_fit);
         place_one(&mut self.order, &self.slots, part)?;
-        Ok(fired)
+        Ok(fed)
     }
 
     /// Takes a watermark: feeds it to each engine, and answers how many panes fire together, at most the greatest `u64`.

@@ -10,6 +10,7 @@
 pub use engines::PartRow;
 pub use parts::Parts;
 pub use refusal::PartsRefusal;
+pub use reply::PartsReply;
 
 mod engines;
 mod keyless;
@@ -18,5 +19,6 @@ mod opening;
 mod ordering;
 mod parts;
 mod refusal;
+mod reply;
 mod row_place;
 mod slots;

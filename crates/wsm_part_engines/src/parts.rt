@@ -13,18 +13,19 @@ ghost use Rattle.wsm_program.specs.View.{header_of};
 ghost use Rattle.wsm_engine.specs.Meaning.{totals_of};
 ghost use Rattle.wsm_part_programs.specs.Names.{of_names};
 ghost use Rattle.wsm_part_engines.specs.Fits.{by_number, number_of, Fits, IsPlaced};
-ghost use Rattle.wsm_part_engines.specs.Answers.{Feeds, IsWhy, MayBeRun};
+ghost use Rattle.wsm_part_engines.specs.Answers.{Feeds, IsSelected, IsWhy, MayBeRun};
 ghost use Rattle.wsm_part_engines.specs.Ready.{IsReady};
 ghost use Rattle.wsm_part_engines.specs.Slots.{open_count};
 
 use crate::engines::{Engines, PartRow};
 use crate::keyless::is_keyless;
 use crate::refusal::PartsRefusal;
+use crate::reply::PartsReply;
 use crate::slots::count_open;
 use std::alloc::{AllocError, Global};
 use std::marker::Model;
 use std::mem;
-use wsm_admission::{Admission, Admitted, Refusal};
+use wsm_admission::{Admission, Admitted};
 use wsm_engine::Totals;
 use wsm_program::{Header, Program};
 use wsm_record::{Event, Form, Schema, Value};
@@ -100,11 +101,14 @@ impl Parts {
         part: u32,
         event: &Event,
         values_fit: bool,
-    ) -> Result<Option<Refusal>, AllocError>
+    ) -> Result<PartsReply, AllocError>
         requires placed { IsPlaced (length self.old.program.header.schema.keys) (event_of event.now) }
         requires judged { values_fit ≡ fits_declared self.old.program.header.schema (event_of event.now) }
         ensures program { self.new.program ≡ self.old.program }
-        ensures feeds { IfOk result (Feeds self.old self.new (by_number (length self.old.program.header.schema.keys) part (event_of event.now))) }
+        ensures feeds { IfOk result (λ r.
+            Feeds self.old self.new (by_number (length self.old.program.header.schema.keys) part (event_of event.now)) r.refusal) }
+        ensures selected { IfOk result (λ r.
+            IsSelected self.old (by_number (length self.old.program.header.schema.keys) part (event_of event.now)) r.selected) }
     {
         self.engines.order.clear();
         self.fed = self.fed.saturating_add(1);
@@ -116,18 +120,27 @@ impl Parts {
             Ok(admitted) => match admitted {
                 Admitted::Record => {
                     let engines = &mut self.engines;
-                    let fired = engines.take_record(&self.marks, part, event, values_fit)?;
-                    self.fired = self.fired.saturating_add(fired);
-                    Ok(None)
+                    let fed = engines.take_record(&self.marks, part, event, values_fit)?;
+                    self.fired = self.fired.saturating_add(fed.fired);
+                    Ok(PartsReply {
+                        refusal: None,
+                        selected: fed.selected,
+                    })
                 }
                 Admitted::Watermark { .. } => {
                     raise(&mut self.marks, event);
                     let fired = self.engines.take_watermark(event, values_fit)?;
                     self.fired = self.fired.saturating_add(fired);
-                    Ok(None)
+                    Ok(PartsReply {
+                        refusal: None,
+                        selected: false,
+                    })
                 }
             },
-            Err(refusal) => Ok(Some(refusal)),
+            Err(refusal) => Ok(PartsReply {
+                refusal: Some(refusal),
+                selected: false,
+            }),
         }
     }
 
@@ -141,10 +154,11 @@ impl Parts {
         &mut self,
         event: &Event,
         values_fit: bool,
-    ) -> Result<Option<Refusal>, AllocError>
+    ) -> Result<PartsReply, AllocError>
         requires { values_fit ≡ fits_declared self.old.program.header.schema (event_of event.now) }
         ensures program { self.new.program ≡ self.old.program }
-        ensures feeds { IfOk result (Feeds self.old self.new (event_of event.now)) }
+        ensures feeds { IfOk result (λ r. Feeds self.old self.new (event_of event.now) r.refusal) }
+        ensures selected { IfOk result (λ r. IsSelected self.old (event_of event.now) r.selected) }
     {
         match event {
             Event::Record {
@@ -158,11 +172,11 @@ impl Parts {
                     time: *time,
                     values: copied(&mut self.values, values)?,
                 };
-                let refusal = self.feed(*number / block, &placed, values_fit)?;
+                let reply = self.feed(*number / block, &placed, values_fit)?;
                 if let Event::Record { values, .. } = placed {
                     self.values = values;
                 }
-                Ok(refusal)
+                Ok(reply)
             }
             Event::Record { key: None, .. } => self.feed(0, event, values_fit),
             Event::Watermark { .. } => self.feed(0, event, values_fit),
@@ -206,6 +220,22 @@ impl Parts {
         ensures most { result ≤ MAX_NAMES }
     {
         self.program.header().schema.key_count()
+    }
+
+    /// The program alone.
+    pub fn into_program(self) -> Program
+        ensures { result ≡ self.program }
+    {
+        let Parts {
+            program,
+            front: _,
+            marks: _,
+            engines: _,
+            fed: _,
+            fired: _,
+            values: _,
+        } = self;
+        program
     }
 
     /// How many parts have an engine.

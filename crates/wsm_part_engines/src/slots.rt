@@ -1,14 +1,23 @@
 //! Engines by the numbers of their parts.
 
-ghost use Rattle.std.specs.Prelude.{◌≡◌, ◌↔◌, ◌<◌, ◌≤◌, ◌^◌, ℕ, length, Some, None, IsSome, IsTrue, OnOk, OnErr};
-ghost use Rattle.wsm_record.specs.Event.{event_of};
+ghost use Rattle.std.specs.Prelude.{◌≡◌, ◌↔◌, ◌<◌, ◌≤◌, ◌^◌, ℕ, List, length, Some, None, IsSome, IsTrue, OnOk, OnErr};
+ghost use Rattle.wsm_record.specs.Event.{Event as AnyEvent, event_of};
 ghost use Rattle.wsm_part_engines.specs.Fits.{engine_at};
-ghost use Rattle.wsm_part_engines.specs.Slots.{Feeds, FeedsAll, FeedsOne, IsJudged, Puts, one_if_some, open_count, rows_of};
+ghost use Rattle.wsm_part_engines.specs.Slots.{Feeds, FeedsAll, FeedsOne, Holds, IsJudged, Puts, one_if_some, open_count, rows_of, selected_on};
 
 use std::alloc::AllocError;
 use wsm_engine::Engine;
 use wsm_record::Event;
 use wsm_semantics::OutRow;
+
+/// What an engine did with an event.
+#[derive(Clone, Copy)]
+pub struct Fed {
+    /// How many panes fired.
+    pub fired: u64,
+    /// Whether it selected a record.
+    pub selected: bool,
+}
 
 /// Whether a part has an engine.
 pub fn is_open(slots: &[Option<Engine>], part: usize) -> bool
@@ -68,15 +77,20 @@ fn make_room(slots: &mut Vec<Option<Engine>>, part: usize) -> Result<(), AllocEr
     Ok(())
 }
 
-/// Feeds the engine of a part an event, and answers how many panes fire.
-pub fn feed_one(slots: &mut [Option<Engine>], part: usize, event: &Event, values_fit: bool) -> u64
+/// Feeds the engine of a part an event, if there is one.
+pub fn feed_one(slots: &mut [Option<Engine>], part: usize, event: &Event, values_fit: bool) -> Fed
     requires { IsJudged values_fit (event_of event.now) (engine_at slots.old part) }
-    ensures { FeedsOne part slots.old slots.new (event_of event.now) result }
+    ensures feeds { FeedsOne part slots.old slots.new (event_of event.now) result.fired }
+    ensures selected { (fed : List AnyEvent) → Holds (engine_at slots.old part) fed →
+        result.selected ≡ selected_on (engine_at slots.old part) fed (event_of event.now) }
 {
     if part < slots.len() {
         feed_slot(&mut slots[part], event, values_fit)
     } else {
-        0
+        Fed {
+            fired: 0,
+            selected: false,
+        }
     }
 }
 
@@ -87,19 +101,29 @@ pub fn feed_all(slots: &mut [Option<Engine>], event: &Event, values_fit: bool) -
 {
     let mut fired = 0u64;
     for slot in slots.iter_mut() {
-        fired = fired.saturating_add(feed_slot(slot, event, values_fit));
+        fired = fired.saturating_add(feed_slot(slot, event, values_fit).fired);
     }
     fired
 }
 
 // Feeds an engine an event, if there is one.
-fn feed_slot(slot: &mut Option<Engine>, event: &Event, values_fit: bool) -> u64
+fn feed_slot(slot: &mut Option<Engine>, event: &Event, values_fit: bool) -> Fed
     requires { IsJudged values_fit (event_of event.now) slot.old }
-    ensures { Feeds slot.old slot.new (event_of event.now) result }
+    ensures feeds { Feeds slot.old slot.new (event_of event.now) result.fired }
+    ensures selected { (fed : List AnyEvent) → Holds slot.old fed → result.selected ≡ selected_on slot.old fed (event_of event.now) }
 {
     match slot {
-        Some(engine) => engine.feed_judged(event, values_fit).fired,
-        None => 0,
+        Some(engine) => {
+            let reply = engine.feed_judged(event, values_fit);
+            Fed {
+                fired: reply.fired,
+                selected: reply.selected,
+            }
+        }
+        None => Fed {
+            fired: 0,
+            selected: false,
+        },
     }
 }
 

@@ -20,13 +20,13 @@ loop-slot-preserved c =
     let olds = c.args.slots.now in
     let e = event_of c.args.event.now in
     let few : i < length slots = omega (arith, c.loop-slot-test.true, c.loop-slot.auto.slots) in
-    let takes : Feeds (engine_at slots i) c.feed_slot.new.slot e c.feed_slot.result =
-    subst (λ (s : Option EngineState). Feeds s c.feed_slot.new.slot e c.feed_slot.result) (get_or_default slots i c.slot-item.result None few) c.feed_slot.ensures in
+    let takes : Feeds (engine_at slots i) c.feed_slot.new.slot e c.feed_slot.result.fired =
+    subst (λ (s : Option EngineState). Feeds s c.feed_slot.new.slot e c.feed_slot.result.fired) (get_or_default slots i c.slot-item.result None few) c.feed_slot.ensures.feeds in
     let others = c.loop-slot.invariant.others in
     record {
-      each = each_more olds slots e i c.feed_slot.new.slot c.feed_slot.result few takes others c.loop-slot.invariant.each;
-      others = others_still olds slots e i c.feed_slot.new.slot c.feed_slot.result few takes others;
-      fired = λ fed is. c.saturating_add-fired.ensures ∙ fired_more olds slots e i c.feed_slot.new.slot c.feed_slot.result few takes others c.loop-slot.fired fed is (c.loop-slot.invariant.fired fed is);
+      each = each_more olds slots e i c.feed_slot.new.slot c.feed_slot.result.fired few takes others c.loop-slot.invariant.each;
+      others = others_still olds slots e i c.feed_slot.new.slot c.feed_slot.result.fired few takes others;
+      fired = λ fed is. c.saturating_add-fired.ensures ∙ fired_more olds slots e i c.feed_slot.new.slot c.feed_slot.result.fired few takes others c.loop-slot.fired fed is (c.loop-slot.invariant.fired fed is);
     }
 
 pub returns : goal.returns

@@ -40,7 +40,7 @@ returns-clause-adds c = λ p before ready.
     let is = ready.named.0 in
     let same : parts.by_number (length old.parts.program.header.schema.keys) c.part.result (event_of c.event.result.now) ≡ e =
     λ i. event_by (parts.number_of (sym c.requires.blocks i) (c.part.ensures i)) (c.event.ensures i) in
-    let feeds : Feeds old.parts c.feed.new.self e c.in_ok-refusal.refusal = subst (λ (x : Event). Feeds old.parts c.feed.new.self x c.in_ok-refusal.refusal) same c.in_ok-refusal.ensures.feeds in
+    let feeds : Feeds old.parts c.feed.new.self e c.in_ok-reply.reply.refusal = subst (λ (x : Event). Feeds old.parts c.feed.new.self x c.in_ok-reply.reply.refusal) same c.in_ok-reply.ensures.feeds in
     let fed : KeyedTurns = record old { parts = c.feed.new.self } in
     let next : Counts p fed (Ok e ∷ before) = record { lawful = counts.lawful; panes = counts.panes; parts = feeds.fits p names past counts.parts is; faults = counts.faults } in
     let mid = c.tell.new.self in
@@ -52,13 +52,13 @@ returns-clause-adds c = λ p before ready.
       events = ap (λ (t : KeyedTurns). t.events) others;
       lines = λ more.
           let all = names ++ more in
-          let by = by_more names more p counts.lawful counts.panes old.parts c.feed.new.self past e c.in_ok-refusal.refusal feeds counts.parts is in
+          let by = by_more names more p counts.lawful counts.panes old.parts c.feed.new.self past e c.in_ok-reply.reply.refusal feeds counts.parts is in
           let refusal = verdict_on (of_names p all) past e in
           let rows = turn_rows (of_names p all) past e in
           let n = counter (length before + 1) in
           let first : mid.lines.items ≡ old.lines.items ++ keyed_lines d all (refusal_lines n refusal) =
           c.in_ok-tell.ensures.lines p (Ok e ∷ before) next d
-          ∙ ap (λ (n : ℕ). old.lines.items ++ lines_text d (refusal_lines n c.in_ok-refusal.refusal)) (one_more (length before))
+          ∙ ap (λ (n : ℕ). old.lines.items ++ lines_text d (refusal_lines n c.in_ok-reply.reply.refusal)) (one_more (length before))
           ∙ ap (λ (r : Option Refusal). old.lines.items ++ lines_text d (refusal_lines n r)) by.verdict
           ∙ ap (λ (l : List ℕ). old.lines.items ++ l) (keyed_refusal d all n refusal) in
           let schema : mid.parts.program.header.schema ≡ d = ap (λ (m : Program). m.header.schema) told.parts.program in

@@ -23,7 +23,7 @@ returns c = on_ok_weaker c.add_rows.result (λ added p past serves.
     let e = event_of c.args.event.now in
     let d = p.header.schema in
     let is : parts.is_named names e ≡ true = sym (c.is_named.ensures names (sym c.len.ensures.len)) ∙ c.if-not-is_named.false in
-    let feeds : Feeds old.parts c.feed_numbered.new.self e c.in_ok-refusal.refusal = c.in_ok-refusal.ensures.feeds in
+    let feeds : Feeds old.parts c.feed_numbered.new.self e c.in_ok-reply.reply.refusal = c.in_ok-reply.ensures.feeds in
     let mid = c.tell.new.self in
     let others : mid ≡ record old { parts = c.feed_numbered.new.self; lines = mid.lines } = c.in_ok-tell.ensures.others in
     let fits : parts.Fits p names c.feed_numbered.new.self (e ∷ past) = feeds.fits p names past serves.parts is in
@@ -36,7 +36,7 @@ returns c = on_ok_weaker c.add_rows.result (λ added p past serves.
       names = ap (λ (t : KeyedTold). t.names) others;
       text = λ more.
           let all = names ++ more in
-          let by = by_more names more p serves.lawful serves.panes old.parts c.feed_numbered.new.self past e c.in_ok-refusal.refusal feeds serves.parts is in
+          let by = by_more names more p serves.lawful serves.panes old.parts c.feed_numbered.new.self past e c.in_ok-reply.reply.refusal feeds serves.parts is in
           let refusal = verdict_on (of_names p all) past e in
           let rows = turn_rows (of_names p all) past e in
           let n = c.args.number in

@@ -2,16 +2,16 @@ use Rattle.std.proofs.Common.{◌≡◌, List, ℕ, Option, ap, sym, subst, ◌�
 use Rattle.std.proofs.lemmas.List.{with_items_is}
 use Rattle.std.specs.List.{AllByRecursion}
 use Rattle.std.specs.Vec.{with_items}
-use Rattle.wsm_record.specs.Event.{event_of}
+use Rattle.wsm_record.specs.Event.{Event, event_of}
 use Rattle.wsm_engine.specs.State.{State as EngineState}
 use Rattle.wsm_part_engines.specs.Fits.{engine_at}
-use Rattle.wsm_part_engines.specs.Slots.{AreOf, FeedsOne, IsJudged, Opens, rows_of}
+use Rattle.wsm_part_engines.specs.Slots.{AreOf, FeedsOne, Holds, IsJudged, Opens, rows_of, selected_on}
 use Rattle.wsm_part_engines.specs.Ordered.{IsRow, places_from}
-use Rattle.wsm_part_engines.proofs.ReadyEngines.{judged, mids_of, one_of, rows_there, took}
+use Rattle.wsm_part_engines.proofs.ReadyEngines.{chosen, judged, mids_of, one_of, rows_there, took}
 use Rattle.wsm_part_engines.proofs.engines.Engines.take_record.Goals as goal
 
-pub feed_one-fired-requires : goal.feed_one-fired-requires
-feed_one-fired-requires c =
+pub feed_one-fed-requires : goal.feed_one-fed-requires
+feed_one-fed-requires c =
     let may = c.requires.may in
     let mids = c.open_part.new.slots.items in
     let opens : Opens c.args.self.now.bytes.items c.args.marks.now c.args.part c.args.self.now.slots.items mids =
@@ -22,17 +22,17 @@ feed_one-fired-requires c =
 pub returns-in_err-place_one-clause-ready : goal.returns-in_err-place_one-clause-ready
 returns-in_err-place_one-clause-ready c = λ p lawful ready.
     let mids = c.open_part.new.slots.items in
-    let news = c.feed_one-fired.new.slots in
+    let news = c.feed_one-fed.new.slots in
     let vec = with_items c.open_part.new.slots news in
-    let is : vec.items ≡ news = with_items_is c.open_part.new.slots news (omega (arith, c.feed_one-fired.auto.slots, ap (λ (xs : List (Option EngineState)). length xs) c.deref_mut.ensures.value, c.open_part.new.slots.ok.0)) in
+    let is : vec.items ≡ news = with_items_is c.open_part.new.slots news (omega (arith, c.feed_one-fed.auto.slots, ap (λ (xs : List (Option EngineState)). length xs) c.deref_mut.ensures.value, c.open_part.new.slots.ok.0)) in
     let opens : Opens c.args.self.now.bytes.items c.args.marks.now c.args.part c.args.self.now.slots.items mids =
     subst (λ (bytes : List ℕ). Opens bytes c.args.marks.now c.args.part c.args.self.now.slots.items mids) c.deref.ensures.value c.in_ok-open_part.ensures.opens in
-    let fed : FeedsOne c.args.part mids news (event_of c.args.event.now) c.feed_one-fired.result =
-    subst (λ (xs : List (Option EngineState)). FeedsOne c.args.part xs news (event_of c.args.event.now) c.feed_one-fired.result) c.deref_mut.ensures.value c.feed_one-fired.ensures in
+    let fed : FeedsOne c.args.part mids news (event_of c.args.event.now) c.feed_one-fed.result.fired =
+    subst (λ (xs : List (Option EngineState)). FeedsOne c.args.part xs news (event_of c.args.event.now) c.feed_one-fed.result.fired) c.deref_mut.ensures.value c.feed_one-fed.ensures.feeds in
     record {
       bytes = ready.bytes;
       few = let few = c.in_ok-open_part.ensures.few in let a = vec.ok.0 in let b = c.open_part.new.slots.ok.0 in omega (arith, few, a, b);
-      of = subst (AreOf p) (sym is) (one_of p c.args.part mids news (event_of c.args.event.now) c.feed_one-fired.result
+      of = subst (AreOf p) (sym is) (one_of p c.args.part mids news (event_of c.args.event.now) c.feed_one-fed.result.fired
           (mids_of p c.args.self.now.bytes.items c.args.marks.now c.args.part c.args.self.now.slots.items mids opens lawful ready.bytes ready.of) fed);
       rows = subst (AllByRecursion (IsRow vec.items)) (sym c.in_err-place_one.ensures.none) tt;
     }
@@ -40,17 +40,17 @@ returns-in_err-place_one-clause-ready c = λ p lawful ready.
 pub returns-clause-ready : goal.returns-clause-ready
 returns-clause-ready c = λ p lawful ready.
     let mids = c.open_part.new.slots.items in
-    let news = c.feed_one-fired.new.slots in
+    let news = c.feed_one-fed.new.slots in
     let vec = with_items c.open_part.new.slots news in
-    let is : vec.items ≡ news = with_items_is c.open_part.new.slots news (omega (arith, c.feed_one-fired.auto.slots, ap (λ (xs : List (Option EngineState)). length xs) c.deref_mut.ensures.value, c.open_part.new.slots.ok.0)) in
+    let is : vec.items ≡ news = with_items_is c.open_part.new.slots news (omega (arith, c.feed_one-fed.auto.slots, ap (λ (xs : List (Option EngineState)). length xs) c.deref_mut.ensures.value, c.open_part.new.slots.ok.0)) in
     let opens : Opens c.args.self.now.bytes.items c.args.marks.now c.args.part c.args.self.now.slots.items mids =
     subst (λ (bytes : List ℕ). Opens bytes c.args.marks.now c.args.part c.args.self.now.slots.items mids) c.deref.ensures.value c.in_ok-open_part.ensures.opens in
-    let fed : FeedsOne c.args.part mids news (event_of c.args.event.now) c.feed_one-fired.result =
-    subst (λ (xs : List (Option EngineState)). FeedsOne c.args.part xs news (event_of c.args.event.now) c.feed_one-fired.result) c.deref_mut.ensures.value c.feed_one-fired.ensures in
+    let fed : FeedsOne c.args.part mids news (event_of c.args.event.now) c.feed_one-fed.result.fired =
+    subst (λ (xs : List (Option EngineState)). FeedsOne c.args.part xs news (event_of c.args.event.now) c.feed_one-fed.result.fired) c.deref_mut.ensures.value c.feed_one-fed.ensures.feeds in
     record {
       bytes = ready.bytes;
       few = let few = c.in_ok-open_part.ensures.few in let a = vec.ok.0 in let b = c.open_part.new.slots.ok.0 in omega (arith, few, a, b);
-      of = subst (AreOf p) (sym is) (one_of p c.args.part mids news (event_of c.args.event.now) c.feed_one-fired.result
+      of = subst (AreOf p) (sym is) (one_of p c.args.part mids news (event_of c.args.event.now) c.feed_one-fed.result.fired
           (mids_of p c.args.self.now.bytes.items c.args.marks.now c.args.part c.args.self.now.slots.items mids opens lawful ready.bytes ready.of) fed);
       rows = subst (AllByRecursion (IsRow vec.items)) (sym (c.in_ok-place_one.ensures.placed ∙ ap (λ (xs : List (Option EngineState)). places_from c.args.part 0 (rows_of (engine_at xs c.args.part))) c.deref-2.ensures.value)) (rows_there vec.items c.args.part);
     }
@@ -58,17 +58,27 @@ returns-clause-ready c = λ p lawful ready.
 pub returns-clause-takes : goal.returns-clause-takes
 returns-clause-takes c = λ p lawful ready.
     let mids = c.open_part.new.slots.items in
-    let news = c.feed_one-fired.new.slots in
+    let news = c.feed_one-fed.new.slots in
     let vec = with_items c.open_part.new.slots news in
-    let is : vec.items ≡ news = with_items_is c.open_part.new.slots news (omega (arith, c.feed_one-fired.auto.slots, ap (λ (xs : List (Option EngineState)). length xs) c.deref_mut.ensures.value, c.open_part.new.slots.ok.0)) in
+    let is : vec.items ≡ news = with_items_is c.open_part.new.slots news (omega (arith, c.feed_one-fed.auto.slots, ap (λ (xs : List (Option EngineState)). length xs) c.deref_mut.ensures.value, c.open_part.new.slots.ok.0)) in
     let opens : Opens c.args.self.now.bytes.items c.args.marks.now c.args.part c.args.self.now.slots.items mids =
     subst (λ (bytes : List ℕ). Opens bytes c.args.marks.now c.args.part c.args.self.now.slots.items mids) c.deref.ensures.value c.in_ok-open_part.ensures.opens in
-    let fed : FeedsOne c.args.part mids news (event_of c.args.event.now) c.feed_one-fired.result =
-    subst (λ (xs : List (Option EngineState)). FeedsOne c.args.part xs news (event_of c.args.event.now) c.feed_one-fired.result) c.deref_mut.ensures.value c.feed_one-fired.ensures in
-    let one = subst (λ (xs : List (Option EngineState)). FeedsOne c.args.part mids xs (event_of c.args.event.now) c.feed_one-fired.result) (sym is) fed in
+    let fed : FeedsOne c.args.part mids news (event_of c.args.event.now) c.feed_one-fed.result.fired =
+    subst (λ (xs : List (Option EngineState)). FeedsOne c.args.part xs news (event_of c.args.event.now) c.feed_one-fed.result.fired) c.deref_mut.ensures.value c.feed_one-fed.ensures.feeds in
+    let one = subst (λ (xs : List (Option EngineState)). FeedsOne c.args.part mids xs (event_of c.args.event.now) c.feed_one-fed.result.fired) (sym is) fed in
     record {
       one = λ before held is_fed there. took p c.args.self.now.bytes.items c.args.marks.now c.args.part c.args.self.now.slots.items mids opens lawful ready.bytes ready.of
-          (engine_at vec.items c.args.part) (event_of c.args.event.now) c.feed_one-fired.result one.one before held is_fed there;
+          (event_of c.args.event.now) before held is_fed there (engine_at vec.items c.args.part) c.feed_one-fed.result.fired one.one;
       others = λ other ne. one.others other ne ∙ opens.others other ne;
       rows = c.in_ok-place_one.ensures.placed ∙ ap (λ (xs : List (Option EngineState)). places_from c.args.part 0 (rows_of (engine_at xs c.args.part))) c.deref-2.ensures.value;
     }
+
+pub returns-clause-selects : goal.returns-clause-selects
+returns-clause-selects c = λ p lawful ready before held is_fed there.
+    let e = event_of c.args.event.now in
+    let mids = c.open_part.new.slots.items in
+    let opens : Opens c.args.self.now.bytes.items c.args.marks.now c.args.part c.args.self.now.slots.items mids =
+    subst (λ (bytes : List ℕ). Opens bytes c.args.marks.now c.args.part c.args.self.now.slots.items mids) c.deref.ensures.value c.in_ok-open_part.ensures.opens in
+    let selected : (past : List Event) → Holds (engine_at mids c.args.part) past → c.feed_one-fed.result.selected ≡ selected_on (engine_at mids c.args.part) past e =
+    subst (λ (xs : List (Option EngineState)). (past : List Event) → Holds (engine_at xs c.args.part) past → c.feed_one-fed.result.selected ≡ selected_on (engine_at xs c.args.part) past e) c.deref_mut.ensures.value c.feed_one-fed.ensures.selected in
+    chosen p c.args.self.now.bytes.items c.args.marks.now c.args.part c.args.self.now.slots.items mids opens lawful ready.bytes ready.of e before held is_fed there c.feed_one-fed.result.selected selected

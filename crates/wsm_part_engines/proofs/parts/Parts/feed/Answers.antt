@@ -1,4 +1,4 @@
-use Rattle.std.proofs.Common.{◌≡◌, None, Ok, Some, List, length, map, refl, ap, sym, subst, ◌∙◌}
+use Rattle.std.proofs.Common.{◌≡◌, None, Ok, Some, false, List, length, map, refl, ap, sym, subst, ◌∙◌}
 use Rattle.std.specs.List.{AllByRecursion}
 use Rattle.wsm_record.specs.Event.{Event, event_of}
 use Rattle.wsm_admission.specs.declared.clock.Clock.{Clock}
@@ -9,13 +9,13 @@ use Rattle.wsm_program.specs.Program.{Header, Program}
 use Rattle.wsm_engine.proofs.Limits.{clock_timely}
 use Rattle.wsm_part_engines.specs.declared.engines.Engines.{Engines}
 use Rattle.wsm_part_engines.specs.declared.row_place.RowPlace.{RowPlace}
-use Rattle.wsm_part_engines.specs.Answers.{Feeds}
+use Rattle.wsm_part_engines.specs.Answers.{Feeds, IsSelected}
 use Rattle.wsm_part_engines.specs.Fits.{IsPlaced, by_number}
 use Rattle.wsm_part_engines.specs.Ordered.{IsRow, row_at}
 use Rattle.wsm_part_engines.specs.Ready.{IsReady}
 use Rattle.wsm_part_engines.specs.State.{State}
 use Rattle.wsm_part_engines.specs.View.{state_of}
-use Rattle.wsm_part_engines.proofs.Feeding.{record_feeds, refused_feeds, watermark_feeds}
+use Rattle.wsm_part_engines.proofs.Feeding.{record_feeds, record_selects, refused_feeds, refused_selects, watermark_feeds, watermark_selects}
 use Rattle.wsm_part_engines.proofs.parts.Parts.feed.Goals as goal
 
 pub decide_judged-answer-requires-clause-timely : goal.decide_judged-answer-requires-clause-timely
@@ -24,8 +24,8 @@ decide_judged-answer-requires-clause-timely c =
     subst (λ (h : Header). IsTimely a.front.clock.from_window h.shape) (sym c.header-header.ensures.header)
     (subst (λ (k : Clock). IsTimely k.from_window a.program.header.shape) (sym c.self.invariant.clock) (clock_timely a.program c.self.invariant.lawful))
 
-pub returns-in_ok-fired-in-Record-clause-feeds : goal.returns-in_ok-fired-in-Record-clause-feeds
-returns-in_ok-fired-in-Record-clause-feeds c =
+pub returns-in_ok-fed-in-Record-clause-feeds : goal.returns-in_ok-fed-in-Record-clause-feeds
+returns-in_ok-fed-in-Record-clause-feeds c =
     let a = c.self.inside in
     let sound = c.self.invariant in
     let p : Program = a.program in
@@ -36,14 +36,14 @@ returns-in_ok-fired-in-Record-clause-feeds c =
     let decided : answer.result ≡ decision p.header.shape p.header.schema a.front e = answer.ensures.decision ∙ ap (λ (h : Header). decision h.shape h.schema a.front e) c.header-header.ensures.header in
     let cleared : Engines = record a.engines { order = c.clear.new.self } in
     let ready : IsReady p cleared = record { bytes = sound.engines.bytes; few = sound.engines.few; of = sound.engines.of; rows = subst (AllByRecursion (IsRow a.engines.slots.items)) (sym c.clear.ensures.items) tt } in
-    let takes = c.in_ok-fired-in-Record.ensures.takes p sound.lawful ready in
+    let takes = c.in_ok-fed-in-Record.ensures.takes p sound.lawful ready in
     let is : answer.result ≡ Ok admitted.Record = c.in-Ok.is ∙ ap Ok c.in-Record.is in
     let news = c.take_record.new.self.slots.items in
     let new : State = record { program = p; front = answer.new.self; engines = news; fed = c.saturating_add-self-inside.result; fired = c.saturating_add-self-inside-in-Record.result; rows = map (row_at (length p.header.schema.keys) news) c.take_record.new.self.order.items } in
     subst (λ (t : State). Feeds t new (by_number (length t.program.header.schema.keys) c.args.part e) None) c.self.view_is
     (record_feeds p sound.lawful sound.panes sound.keyless a.front answer.new.self a.engines.slots.items news a.fed c.saturating_add-self-inside.result a.fired c.saturating_add-self-inside-in-Record.result s.rows
     (map (row_at (length p.header.schema.keys) news) c.take_record.new.self.order.items) c.args.part e place answer.result decided answer.ensures.state c.saturating_add-self-inside.ensures
-    is c.deref.result.now (c.deref.ensures.value ∙ sound.marks) c.in_ok-fired-in-Record.fired c.saturating_add-self-inside-in-Record.ensures
+    is c.deref.result.now (c.deref.ensures.value ∙ sound.marks) c.in_ok-fed-in-Record.fed.fired c.saturating_add-self-inside-in-Record.ensures
     takes.one takes.others (ap (λ (ps : List RowPlace). map (row_at (length p.header.schema.keys) news) ps) takes.rows))
 
 pub returns-in_ok-fired-in-Watermark-clause-feeds : goal.returns-in_ok-fired-in-Watermark-clause-feeds
@@ -82,3 +82,61 @@ returns-in-Err-clause-feeds c =
     (refused_feeds p sound.lawful sound.panes sound.keyless a.front answer.new.self a.engines.slots.items news a.fed c.saturating_add-self-inside.result a.fired a.fired s.rows
     (map (row_at (length p.header.schema.keys) news) c.clear.new.self.items) c.args.part e place answer.result decided answer.ensures.state c.saturating_add-self-inside.ensures
     c.in-Err.refusal c.in-Err.is refl refl (ap (λ (ps : List RowPlace). map (row_at (length p.header.schema.keys) news) ps) c.clear.ensures.items))
+
+pub returns-in_ok-fed-in-Record-clause-selected : goal.returns-in_ok-fed-in-Record-clause-selected
+returns-in_ok-fed-in-Record-clause-selected c =
+    let a = c.self.inside in
+    let sound = c.self.invariant in
+    let p : Program = a.program in
+    let e : Event = event_of c.args.event.now in
+    let s : State = state_of a in
+    let place : IsPlaced (length p.header.schema.keys) e = subst (λ (t : State). IsPlaced (length t.program.header.schema.keys) e) (sym c.self.view_is) c.requires.placed in
+    let answer = c.decide_judged-answer in
+    let decided : answer.result ≡ decision p.header.shape p.header.schema a.front e = answer.ensures.decision ∙ ap (λ (h : Header). decision h.shape h.schema a.front e) c.header-header.ensures.header in
+    let cleared : Engines = record a.engines { order = c.clear.new.self } in
+    let ready : IsReady p cleared = record { bytes = sound.engines.bytes; few = sound.engines.few; of = sound.engines.of; rows = subst (AllByRecursion (IsRow a.engines.slots.items)) (sym c.clear.ensures.items) tt } in
+    let is : answer.result ≡ Ok admitted.Record = c.in-Ok.is ∙ ap Ok c.in-Record.is in
+    let fed = c.in_ok-fed-in-Record.fed in
+    let takes = c.in_ok-fed-in-Record.ensures.takes p sound.lawful ready in
+    let news = c.take_record.new.self.slots.items in
+    subst (λ (t : State). IsSelected t (by_number (length t.program.header.schema.keys) c.args.part e) fed.selected) c.self.view_is
+    (record_selects p sound.lawful sound.panes sound.keyless a.front answer.new.self a.engines.slots.items news a.fed c.saturating_add-self-inside.result a.fired c.saturating_add-self-inside-in-Record.result s.rows
+    (map (row_at (length p.header.schema.keys) news) c.take_record.new.self.order.items) c.args.part e place answer.result decided answer.ensures.state c.saturating_add-self-inside.ensures
+    is c.deref.result.now (c.deref.ensures.value ∙ sound.marks) fed.fired c.saturating_add-self-inside-in-Record.ensures
+    takes.one takes.others (ap (λ (ps : List RowPlace). map (row_at (length p.header.schema.keys) news) ps) takes.rows)
+    fed.selected (c.in_ok-fed-in-Record.ensures.selects p sound.lawful ready))
+
+pub returns-in_ok-fired-in-Watermark-clause-selected : goal.returns-in_ok-fired-in-Watermark-clause-selected
+returns-in_ok-fired-in-Watermark-clause-selected c =
+    let a = c.self.inside in
+    let sound = c.self.invariant in
+    let p : Program = a.program in
+    let e : Event = event_of c.args.event.now in
+    let s : State = state_of a in
+    let place : IsPlaced (length p.header.schema.keys) e = subst (λ (t : State). IsPlaced (length t.program.header.schema.keys) e) (sym c.self.view_is) c.requires.placed in
+    let answer = c.decide_judged-answer in
+    let decided : answer.result ≡ decision p.header.shape p.header.schema a.front e = answer.ensures.decision ∙ ap (λ (h : Header). decision h.shape h.schema a.front e) c.header-header.ensures.header in
+    let takes = c.in_ok-fired-in-Watermark.ensures.takes in
+    let is : answer.result ≡ Ok (admitted.Watermark c.in-Watermark.old c.in-Watermark.new) = c.in-Ok.is ∙ ap Ok c.in-Watermark.is in
+    let news = c.take_watermark.new.self.slots.items in
+    subst (λ (t : State). IsSelected t (by_number (length t.program.header.schema.keys) c.args.part e) false) c.self.view_is
+    (watermark_selects p sound.lawful sound.panes sound.keyless a.front answer.new.self a.engines.slots.items news a.fed c.saturating_add-self-inside.result a.fired c.saturating_add-self-inside-in-Watermark.result s.rows
+    (map (row_at (length p.header.schema.keys) news) c.take_watermark.new.self.order.items) c.args.part e place answer.result decided answer.ensures.state c.saturating_add-self-inside.ensures
+    c.in-Watermark.old c.in-Watermark.new is sound.engines.of c.in_ok-fired-in-Watermark.fired
+    c.saturating_add-self-inside-in-Watermark.ensures takes.all (ap (λ (ps : List RowPlace). map (row_at (length p.header.schema.keys) news) ps) takes.rows))
+
+pub returns-in-Err-clause-selected : goal.returns-in-Err-clause-selected
+returns-in-Err-clause-selected c =
+    let a = c.self.inside in
+    let sound = c.self.invariant in
+    let p : Program = a.program in
+    let e : Event = event_of c.args.event.now in
+    let s : State = state_of a in
+    let place : IsPlaced (length p.header.schema.keys) e = subst (λ (t : State). IsPlaced (length t.program.header.schema.keys) e) (sym c.self.view_is) c.requires.placed in
+    let answer = c.decide_judged-answer in
+    let decided : answer.result ≡ decision p.header.shape p.header.schema a.front e = answer.ensures.decision ∙ ap (λ (h : Header). decision h.shape h.schema a.front e) c.header-header.ensures.header in
+    let news = a.engines.slots.items in
+    subst (λ (t : State). IsSelected t (by_number (length t.program.header.schema.keys) c.args.part e) false) c.self.view_is
+    (refused_selects p sound.lawful sound.panes sound.keyless a.front answer.new.self a.engines.slots.items news a.fed c.saturating_add-self-inside.result a.fired a.fired s.rows
+    (map (row_at (length p.header.schema.keys) news) c.clear.new.self.items) c.args.part e place answer.result decided answer.ensures.state c.saturating_add-self-inside.ensures
+    c.in-Err.refusal c.in-Err.is)
