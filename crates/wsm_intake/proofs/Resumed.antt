@@ -55,6 +55,10 @@ fed_reversed past (e ∷ es) =
     ∙ sym (append_assoc (reverse es) (e ∷ []) past)
     ∙ ap (λ (l : List Event). l ++ past) (sym (reverse-cons e es))
 
+-- the needed ones, as they were saved
+pub needed_fed : (q : Query) (fed : List Event) → fed_all [] (needed_in_order q fed) ≡ needed q fed
+needed_fed q fed = fed_reversed [] (needed_in_order q fed) ∙ append-nil (reverse (needed_in_order q fed)) ∙ reverse-reverse (needed q fed)
+
 module _ (s : Source) (clocks : Option Clocks) (p : Program) (whole : IsTrue (is_program p)) (before : List (List ℕ)) (text : List ℕ) (saved : Saved s clocks p before text) where
   abbrev mid : Program
   mid = program_with saved.records p
@@ -75,7 +79,7 @@ module _ (s : Source) (clocks : Option Clocks) (p : Program) (whole : IsTrue (is
   k = kept_of s clocks p before
 
   fed_again : fed_all [] (needed_in_order q fed) ≡ needed q fed
-  fed_again = fed_reversed [] (needed_in_order q fed) ∙ append-nil (reverse (needed_in_order q fed)) ∙ reverse-reverse (needed q fed)
+  fed_again = needed_fed q fed
 
   as_many : taken (query_of p) (needed q fed) ≡ taken q (needed q fed)
   as_many = taken_alike q p.header.clock.records fed saved.room saved.fewer

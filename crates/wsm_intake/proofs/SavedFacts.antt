@@ -44,7 +44,7 @@ known_itself (Some n) = refl
 
 -- ---- RECORDS that are left
 
-some_left : (left whole gone : ℕ) → left ≡ whole - gone → 0 < left → gone < whole
+pub some_left : (left whole gone : ℕ) → left ≡ whole - gone → 0 < left → gone < whole
 some_left left whole gone is some = omega (arith, is, some)
 
 -- ---- another that was told, which serves as well

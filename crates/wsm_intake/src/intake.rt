@@ -339,8 +339,8 @@ impl Intake {
     }
 }
 
-// Keeps the first line, where none was taken before it.
-fn note_first(taken: u64, line: &[u8], first: &mut Vec<u8>) -> Result<(), AllocError>
+/// Keeps the first line, where none was taken before it.
+pub fn note_first(taken: u64, line: &[u8], first: &mut Vec<u8>) -> Result<(), AllocError>
     ensures { OnOk result (first.new.items ≡ (if nat_eq taken 0 then line.now else first.old.items)) }
 {
     if taken == 0 {

@@ -106,8 +106,8 @@ fn feed_all(engine: &mut Engine, events: &[Event])
     }
 }
 
-// So many RECORDS that as many are left where some were taken, unless these are more than there may be.
-fn fewer_records(left: u64, taken: u64, records: i64) -> Option<i64>
+/// So many RECORDS that as many are left where some were taken, unless these are more than there may be.
+pub fn fewer_records(left: u64, taken: u64, records: i64) -> Option<i64>
     ensures { IfSome result (λ n. (n ≡ pos (left + taken)) × ((left + taken) ≤ unsigned_abs records)) }
 {
     let fewer = left.checked_add(taken)?;

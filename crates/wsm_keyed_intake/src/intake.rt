@@ -1,50 +1,42 @@
 //! What the lines of a log so far come to, by any number of names.
 
-ghost use Rattle.std.specs.Prelude.{◌≡◌, ◌<◌, ◌^◌, [], ℤ, ℕ, List, Option, IfOk, IsTrue, option_map, length};
-ghost use Rattle.wsm_record.specs.Event.{event_of};
-ghost use Rattle.wsm_record.specs.Schema.{Declared};
-ghost use Rattle.wsm_program.specs.Program.{Program, is_program};
-ghost use Rattle.wsm_turns.specs.declared.clocks.Clocks.{Clocks as AnyClocks};
-ghost use Rattle.wsm_turns.specs.Known.{Passes, Remembers};
-ghost use Rattle.wsm_turns.specs.Turns.{Kept, stamp_of, watermark};
-ghost use Rattle.wsm_keyed_told.specs.Tells.{Serves};
-ghost use Rattle.wsm_keyed_intake.specs.KeyedLog.{setting_by};
-
+use crate::passing::{identifiers_of, passes, stamp_among};
 use std::alloc::{AllocError, Global};
-use wsm_admission::has_fitting_values;
 use wsm_csv::{Device, DeviceFault, end_text, write_out};
 use wsm_engine::Totals;
-use wsm_intake::{LogCounts, LogTotals, add_fault};
+use wsm_intake::{LogCounts, LogTotals, add_fault, note_first};
 use wsm_key_names::KeyNames;
 use wsm_keyed_told::KeyedTold;
 use wsm_lines::{LineFault, LineRefusal, Source};
 use wsm_named_lines::NamedLines;
 use wsm_part_engines::Parts;
-use wsm_record::{Event, Schema};
 use wsm_turns::{
     ClockNames, Clocks, Identifiers, Listener, Stamp, Taker, Voice, Waiting, clocks_heard,
     count_in, named_in, open_clocks, open_names, silent_in, stamp_by, take_record, take_rest,
     tell_heard, voice_of,
 };
-use wsm_windows::is_time;
 
 /// Engines of parts and what stands between them and a log: the reader of lines by names, the clocks with their names and the records
 /// that wait, and the identifiers of records that came. It has the bytes that are written for the last line.
 pub struct KeyedIntake {
-    told: KeyedTold,
-    reader: NamedLines,
-    waiting: Option<Waiting>,
+    pub(crate) told: KeyedTold,
+    pub(crate) reader: NamedLines,
+    pub(crate) waiting: Option<Waiting>,
     // The names of clocks, where lines name them.
-    voices: Option<ClockNames>,
-    identifiers: Identifiers,
+    pub(crate) voices: Option<ClockNames>,
+    pub(crate) identifiers: Identifiers,
+    // The RECORDS of the query, of which the program of the parts may have those that are left.
+    pub(crate) records: i64,
+    // The first line.
+    pub(crate) first: Vec<u8>,
     // The lines so far.
-    taken: u64,
+    pub(crate) taken: u64,
     // Those that were no event.
-    faults: u64,
+    pub(crate) faults: u64,
     // The records that were left out.
-    doubles: u64,
+    pub(crate) doubles: u64,
     // Those that had no voice.
-    silent: u64,
+    pub(crate) silent: u64,
 }
 
 impl Drop for KeyedIntake {
@@ -55,6 +47,8 @@ impl Drop for KeyedIntake {
             waiting: _,
             voices: _,
             identifiers: _,
+            records: _,
+            first: _,
             taken: _,
             faults: _,
             doubles: _,
@@ -86,6 +80,7 @@ impl KeyedIntake {
     ghost use Rattle.wsm_intake.specs.Intake.{Said, fault_count, fault_text, left_at, line_behind, turn_at, voiced_in};
     ghost use Rattle.wsm_intake.specs.Turns.{line_of};
     ghost use Rattle.wsm_keyed_intake.specs.KeyedLog.{KeyedLog, names_of, query_behind, said_by, setting_by};
+    ghost use Rattle.wsm_keyed_intake.specs.GoesOn.{GoesOn, GoneOn};
     ghost use Rattle.wsm_keyed_intake.specs.Turns.{AreNamed, Ends, Fits, Goes, Holds, IsOpened, Speaks, Turned, spoken_read};
 
     /// Before the first line, by these names, of which there may be so many, with these clocks, where there are any.
@@ -105,9 +100,11 @@ impl KeyedIntake {
         requires texts { are_same source.key.names ≡ true }
         requires clocks { AreClocks clocks }
         requires named { AreNamed clocks }
-        ensures { IfOk result (λ intake. Fits (record { program = parts.program; source = source; clocks = clocks; names = names; most = most }) intake []) }
+        ensures fits { IfOk result (λ intake. Fits (record { program = parts.program; source = source; clocks = clocks; names = names; most = most }) intake []) }
+        ensures goes_on { IfOk result (λ intake. GoesOn (record { program = parts.program; source = source; clocks = clocks; names = names; most = most }) intake []) }
     {
         let count = count_in(clocks, parts.block());
+        let records = parts.header().clock.records;
         let identifiers = identifiers_of(alloc, &parts);
         let waiting = open_clocks(alloc, clocks, count)?;
         let voices = open_names(alloc, named_in(clocks))?;
@@ -117,11 +114,37 @@ impl KeyedIntake {
             waiting,
             voices,
             identifiers,
+            records,
+            first: Vec::new(alloc),
             taken: 0,
             faults: 0,
             doubles: 0,
             silent: 0,
         })
+    }
+
+    /// The same, and the events that the parts need are kept, so that another may go on from what this one comes to.
+    ///
+    /// # Errors
+    ///
+    /// Memory was refused.
+    pub fn open_kept(
+        alloc: Global,
+        parts: Parts,
+        source: Source,
+        clocks: Option<Clocks>,
+        names: KeyNames,
+        most: u32,
+    ) -> Result<KeyedIntake, AllocError>
+        requires opened { IsOpened parts }
+        requires texts { are_same source.key.names ≡ true }
+        requires clocks { AreClocks clocks }
+        requires named { AreNamed clocks }
+        ensures { IfOk result (λ intake. GoesOn (record { program = parts.program; source = source; clocks = clocks; names = names; most = most }) intake []) }
+    {
+        let mut intake = KeyedIntake::open(alloc, parts, source, clocks, names, most)?;
+        intake.told.keep(alloc);
+        Ok(intake)
     }
 
     /// Takes the turn of a line. The bytes are then those that are written for it.
@@ -130,11 +153,13 @@ impl KeyedIntake {
     ///
     /// Memory was refused.
     pub fn take(&mut self, line: &[u8]) -> Result<(), AllocError>
-        ensures { (g : KeyedLog) (before : List (List ℕ)) → Fits g self.old before → OnOk result (Turned g self.new before line.now) }
+        ensures turned { (g : KeyedLog) (before : List (List ℕ)) → Fits g self.old before → OnOk result (Turned g self.new before line.now) }
+        ensures goes_on { (g : KeyedLog) (before : List (List ℕ)) → GoesOn g self.old before → OnOk result (GoneOn g self.new before line.now) }
     {
         let Some(taken) = self.taken.checked_add(1) else {
             return Err(AllocError);
         };
+        note_first(self.taken, line, &mut self.first)?;
         self.told.lines.clear();
         match self.reader.read(&mut self.told.names, line) {
             Ok(()) => {
@@ -287,11 +312,47 @@ impl KeyedIntake {
         }
     }
 
+    /// The parts with what they told, the reader, and the RECORDS of the query.
+    pub(crate) fn into_parts(self) -> (KeyedTold, NamedLines, i64)
+        ensures told { result.0 ≡ self.told }
+        ensures reader { result.1 ≡ self.reader }
+        ensures records { result.2 ≡ self.records }
+    {
+        let KeyedIntake {
+            told,
+            reader,
+            waiting: _,
+            voices: _,
+            identifiers: _,
+            records,
+            first: _,
+            taken: _,
+            faults: _,
+            doubles: _,
+            silent: _,
+        } = self;
+        (told, reader, records)
+    }
+
     /// The watermark.
     pub fn mark(&self) -> i64
         ensures { (p : Program) (past : List AnyEvent) → Serves p self.now.told past → result ≡ mark (of_names p self.now.told.names) past }
     {
         self.told.mark()
+    }
+
+    /// How many lines were taken.
+    pub fn taken(&self) -> u64
+        ensures { result ≡ self.now.taken }
+    {
+        self.taken
+    }
+
+    /// The names, in their order.
+    pub fn names(&self) -> &KeyNames
+        ensures { result.now ≡ self.now.told.names }
+    {
+        &self.told.names
     }
 
     /// How many names there are.
@@ -304,57 +365,5 @@ impl KeyedIntake {
     /// How many parts have an engine.
     pub fn part_count(&self) -> usize {
         self.told.parts.opened()
-    }
-}
-
-// What an event says of time, where its key is one of so many and its values fit what a schema declares: on the clock of its key.
-fn stamp_among(keys: usize, schema: &Schema, event: &Event) -> Option<Stamp>
-    ensures { (d : Declared) → length d.keys ≡ keys → d.fields ≡ schema.now.fields → result ≡ stamp_of d (event_of event.now) }
-{
-    match event {
-        Event::Record {
-            key: Some(key),
-            time,
-            ..
-        } => {
-            let clock = *key as usize;
-            if clock < keys && (has_fitting_values(schema, event) && is_time(*time)) {
-                Some(Stamp {
-                    clock,
-                    time: time.unsigned_abs(),
-                })
-            } else {
-                None
-            }
-        }
-        Event::Record { key: None, .. } => None,
-        Event::Watermark { .. } => None,
-    }
-}
-
-// No identifier of the records of a program that parts run has come.
-fn identifiers_of(alloc: Global, parts: &Parts) -> Identifiers
-    ensures none { (clocks : Option AnyClocks) (all : List (List ℕ)) (mark : ℤ) → Remembers (setting_by clocks parts.now.program all) mark result [] }
-    ensures lawful { IsTrue (is_program parts.now.program) }
-{
-    let header = parts.header();
-    Identifiers::new(alloc, header.clock, header.shape)
-}
-
-// Whether a record with an identifier, if it has one, passes. Takes note of it then.
-fn passes(
-    identifier: Option<&[u8]>,
-    time: u64,
-    told: &KeyedTold,
-    identifiers: &mut Identifiers,
-) -> Result<bool, AllocError>
-    requires { time < 2 ^ 63 }
-    ensures { (clocks : Option AnyClocks) (p : Program) (all : List (List ℕ)) (k : Kept) → Serves p told.now k.fed →
-        let w = setting_by clocks p all in Remembers w (watermark w k.fed) identifiers.old k.memory →
-        IfOk result (Passes w (watermark w k.fed) identifiers.new (option_map (λ t. t.now) identifier.entry) time k.memory) }
-{
-    match identifier {
-        Some(identifier) => identifiers.pass(identifier, time, told.mark()),
-        None => Ok(true),
     }
 }

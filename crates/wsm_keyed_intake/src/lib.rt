@@ -10,6 +10,9 @@ pub use run::{KeyedLogTotals, run_parts};
 pub use stop::KeyedLogStop;
 
 mod intake;
+mod key_names;
 mod log;
+mod passing;
 mod run;
+mod saving;
 mod stop;

@@ -1,4 +1,5 @@
 pub mod KeyedLines
 pub mod Declared
 pub mod More
+pub mod ByNames
 mod Numbers

@@ -1,2 +1,4 @@
 pub mod KeyedLines
+pub mod Resuming
+pub mod Staying
 pub mod Tells

@@ -1,5 +1,5 @@
 -- What a front and its engines were told, by any number of names, and the bytes of that.
-use Rattle.std.specs.Prelude.{◌≡◌, ℕ, ◌++◌, List, [], ◌∷◌, IsTrue, refl}
+use Rattle.std.specs.Prelude.{◌≡◌, ℕ, ◌++◌, List, [], ◌∷◌, IfSome, IsTrue, refl}
 use Rattle.std.proofs.Common.{◌∙◌, sym, ap, subst, append_assoc, append-nil}
 use Rattle.wsm_record.specs.declared.words.Form.TheVariants.{Panes}
 use Rattle.wsm_record.specs.Event.{Event}
@@ -9,12 +9,14 @@ use Rattle.wsm_turns.specs.Numbered.{Numbered}
 use Rattle.wsm_turns.specs.Turns.{fed_with}
 use Rattle.wsm_keyed_told.specs.declared.told.KeyedTold.{KeyedTold}
 use Rattle.wsm_keyed_told.specs.KeyedLines.{event_text, events_text}
+use Rattle.wsm_keyed_told.specs.Staying.{CutsAll}
 
--- the engines of the program, after a history of events whose keys have names
+-- the engines of the program, after a history of events whose keys have names, and what stays of them, where that is kept
 pub record Serves (p : Program) (t : KeyedTold) (past : List Event) : Type 0 where
   pub lawful : IsTrue (is_program p)
   pub panes : p.header.form ≡ Panes
   pub parts : parts.Fits p t.names t.parts past
+  pub staying : IfSome t.staying (λ c. CutsAll p c past)
 
 -- some events more, with the bytes of their turns behind those that were there, by the names so far and whichever come
 pub record Tells (p : Program) (old new : KeyedTold) (past : List Event) (gs : List Numbered) : Type 0 where
@@ -42,7 +44,7 @@ texts_append p names past (g ∷ gs) hs =
 -- none
 pub Tells-none : (p : Program) (t : KeyedTold) (past : List Event) → Serves p t past → Tells p t t past []
 Tells-none p t past serves = record {
-  serves = record { lawful = serves.lawful; panes = serves.panes; parts = serves.parts };
+  serves = record { lawful = serves.lawful; panes = serves.panes; parts = serves.parts; staying = serves.staying };
   names = refl;
   text = λ more. sym (append-nil t.lines.items);
 }
@@ -68,4 +70,4 @@ pub Took-join : (a b c : KeyedTold) (gs hs : List Numbered) → Took a b gs → 
 Took-join a b c gs hs first second p past serves =
     let told = first p past serves in
     let there = told.serves in
-    Tells-join p a b c past gs hs told (second p (fed_with past gs) (record { lawful = there.lawful; panes = there.panes; parts = there.parts }))
+    Tells-join p a b c past gs hs told (second p (fed_with past gs) (record { lawful = there.lawful; panes = there.panes; parts = there.parts; staying = there.staying }))

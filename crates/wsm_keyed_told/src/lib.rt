@@ -5,7 +5,10 @@
 #![tactic(auto)]
 
 pub use rows::{add_refusal, add_rows};
+pub use staying::KeyedStaying;
 pub use told::KeyedTold;
 
+mod resuming;
 mod rows;
+mod staying;
 mod told;

@@ -5,6 +5,7 @@ ghost use Rattle.wsm_record.specs.Event.{event_of};
 ghost use Rattle.wsm_part_engines.specs.Fits.{is_named};
 
 use crate::rows::{add_refusal, add_rows};
+use crate::staying::{KeyedStaying, note};
 use std::alloc::{AllocError, Global};
 use wsm_admission::{Refusal, has_fitting_values};
 use wsm_key_names::KeyNames;
@@ -18,10 +19,12 @@ pub struct KeyedTold {
     pub parts: Parts,
     pub names: KeyNames,
     pub lines: Vec<u8>,
+    // What stays of the events, where that is kept.
+    pub staying: Option<KeyedStaying>,
 }
 
 impl KeyedTold {
-    ghost use Rattle.std.specs.Prelude.{◌≡◌, ◌++◌, [], ℕ, List, IsTrue, OnOk};
+    ghost use Rattle.std.specs.Prelude.{◌≡◌, ◌++◌, [], ℕ, List, true, length, take, IfOk, IsTrue, OnOk};
     ghost use Rattle.wsm_record.specs.declared.words.Form.TheVariants.{Panes};
     ghost use Rattle.wsm_record.specs.Event.{Event as AnyEvent};
     ghost use Rattle.wsm_record.specs.Schema.{Declared};
@@ -30,7 +33,8 @@ impl KeyedTold {
     ghost use Rattle.wsm_semantics.specs.Text.{lines_text};
     ghost use Rattle.wsm_program.specs.Program.{Program, is_program};
     ghost use Rattle.wsm_part_programs.specs.Names.{of_names};
-    ghost use Rattle.wsm_part_engines.specs.Fits.{Fits as PartsFit};
+    ghost use Rattle.wsm_part_engines.specs.Fits.{AreNamed, Fits as PartsFit};
+    ghost use Rattle.wsm_intake.specs.Staying.{IsListed};
     ghost use Rattle.wsm_keyed_told.specs.Tells.{Serves};
 
     /// Before the first event, by these names.
@@ -46,6 +50,37 @@ impl KeyedTold {
             parts,
             names,
             lines: Vec::new(alloc),
+            staying: None,
+        }
+    }
+
+    /// Keeps what stays of the events from now on, where none came yet.
+    pub fn keep(&mut self, alloc: Global)
+        ensures serves { (p : Program) → Serves p self.old [] → Serves p self.new [] }
+        ensures others { self.new ≡ record self.old { staying = self.new.staying } }
+    {
+        self.staying = Some(KeyedStaying::open(alloc, &self.parts));
+    }
+
+    /// Adds the list of the events that are needed, the oldest first, behind a text, where what stays is kept, and answers whether it
+    /// is.
+    ///
+    /// # Errors
+    ///
+    /// Memory was refused. A part may have been added, and no event may be taken any more.
+    pub fn save_needed(&mut self, text: &mut Vec<u8>) -> Result<bool, AllocError>
+        ensures serves { (p : Program) (past : List AnyEvent) → Serves p self.old past → OnOk result (Serves p self.new past) }
+        ensures saved { (p : Program) (past : List AnyEvent) → Serves p self.old past →
+            IfOk result (λ is_saved. is_saved ≡ true → (all : List (List ℕ)) → AreNamed all past → IsListed (of_names p all) past text.old.items text.new.items) }
+        ensures grows { OnOk result (take (length text.old.items) text.new.items ≡ text.old.items) }
+        ensures others { self.new ≡ record self.old { staying = self.new.staying } }
+    {
+        match &mut self.staying {
+            Some(staying) => {
+                staying.add_list(text)?;
+                Ok(true)
+            }
+            None => Ok(false),
         }
     }
 
@@ -91,14 +126,17 @@ impl Taker for KeyedTold {
             return Err(AllocError);
         }
         let values_fit = has_fitting_values(self.parts.schema(), event);
+        let before = self.parts.mark();
         let reply = self.parts.feed_numbered(event, values_fit)?;
+        let now = self.parts.mark();
+        note(&mut self.staying, event, &reply, before, now)?;
         self.tell(number, reply.refusal)?;
         add_rows(&self.parts, &self.names, &mut self.lines)
     }
 }
 
-// Whether the key of an event, if it has one, is one of so many.
-fn is_named(event: &Event, names: usize) -> bool
+/// Whether the key of an event, if it has one, is one of so many.
+pub fn is_named(event: &Event, names: usize) -> bool
     ensures { (all : List (List ℕ)) → length all ≡ names → result ≡ is_named all (event_of event.now) }
 {
     match event {

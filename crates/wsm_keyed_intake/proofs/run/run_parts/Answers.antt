@@ -22,7 +22,7 @@ returns-in_err-intake-clause-ends_early g c =
     rw (e.1, e.2) (nothing (g.R.Read.remaining c.args.reader) _ (g.D.Device.taken c.args.out.now))
 
 pub returns-clause-completes : goal.returns-clause-completes
-returns-clause-completes g c = c.in_ok-log.ensures.completes (g.R.Read.remaining c.args.reader) _ c.in_ok-lines.ensures c.in_ok-intake.ensures
+returns-clause-completes g c = c.in_ok-log.ensures.completes (g.R.Read.remaining c.args.reader) _ c.in_ok-lines.ensures c.in_ok-intake.ensures.fits
 
 pub returns-clause-counts : goal.returns-clause-counts
-returns-clause-counts g c = c.in_ok-log.ensures.counts (g.R.Read.remaining c.args.reader) _ c.in_ok-lines.ensures c.in_ok-intake.ensures
+returns-clause-counts g c = c.in_ok-log.ensures.counts (g.R.Read.remaining c.args.reader) _ c.in_ok-lines.ensures c.in_ok-intake.ensures.fits

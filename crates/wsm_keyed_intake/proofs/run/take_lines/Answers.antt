@@ -19,7 +19,7 @@ loop-intake-preserved g c = record {
       let (read, follows, stands) = c.loop-intake.invariant.turns known k start fits in
       let line = line_of c.advance.new.self in
       let follows' = rw c.if-branch.true at (c.in_ok-advance.ensures.advances k.source.longest known read follows) in
-      let turned = subst (Turned k c.take.new.self (reverse read)) c.line.ensures.value (c.in_ok-take.ensures k (reverse read) stands.fits) in
+      let turned = subst (Turned k c.take.new.self (reverse read)) c.line.ensures.value (c.in_ok-take.ensures.turned k (reverse read) stands.fits) in
       (read ++ line ∷ [], follows', Stands-next k read line c.loop-intake.intake c.take.new.self turned (g.D.Device.taken c.args.out.now) (g.D.Device.taken c.loop-intake.out) (g.D.Device.taken c.write.new.out) stands c.in_ok-write.ensures.all);
 }
 
@@ -54,7 +54,7 @@ returns-in_err-write-clause-ends_early g c =
     let (read, follows, stands) = c.loop-intake.invariant.turns known k start fits in
     let line = line_of c.advance.new.self in
     let follows' = rw c.if-branch.true at (c.in_ok-advance.ensures.advances k.source.longest known read follows) in
-    let turned = subst (Turned k c.take.new.self (reverse read)) c.line.ensures.value (c.in_ok-take.ensures k (reverse read) stands.fits) in (
+    let turned = subst (Turned k c.take.new.self (reverse read)) c.line.ensures.value (c.in_ok-take.ensures.turned k (reverse read) stands.fits) in (
       read ++ line ∷ [],
       inl (record {
         first = Follows-first k.source.longest g.R.Read.remaining known (read ++ line ∷ []) c.advance.new.self follows';

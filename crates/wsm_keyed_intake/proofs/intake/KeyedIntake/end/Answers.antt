@@ -22,11 +22,11 @@ returns c = λ g lines fits.
     let rest = events_text p all k.fed (at_end k) in
     let cleared = record c.args.self.now.told { lines = c.clear.new.self } in
     let tells = c.in_ok-take_rest.ensures g.clocks (count_in g.clocks (length all)) k by.holds.waiting p k.fed
-    (record { lawful = by.holds.told.lawful; panes = by.holds.told.panes; parts = by.holds.told.parts }) in
+    (record { lawful = by.holds.told.lawful; panes = by.holds.told.panes; parts = by.holds.told.parts; staying = by.holds.told.staying }) in
     let new = c.take_rest.new.taker in
     let names : new.names ≡ all = tells.names ∙ fits.reads.known in
     let numbers : line_of c.totals-totals.result ≡ last_line p all g.clocks said =
-    c.totals-totals.ensures p (fed_with k.fed (at_end k)) said (record { lawful = tells.serves.lawful; panes = tells.serves.panes; parts = tells.serves.parts }) by.taken by.faults
+    c.totals-totals.ensures p (fed_with k.fed (at_end k)) said (record { lawful = tells.serves.lawful; panes = tells.serves.panes; parts = tells.serves.parts; staying = tells.serves.staying }) by.taken by.faults
     ∙ ap (λ (ns : List (List ℕ)). line_behind (of_names p ns) said (fed_with k.fed (at_end k))) names in
     record {
       text = c.in_ok-end_text.ensures d

@@ -43,7 +43,7 @@ returns-in-None c = λ clocks p all k voices holds knows few.
     Speaks clocks p all old (record old { told = c.take.new.self }) k v (turn_by w k old.taken o x) (left_by o x.identifier k.memory)) (sym is) (record {
       goes = record {
         holds = record {
-          told = record { lawful = tells.serves.lawful; panes = tells.serves.panes; parts = tells.serves.parts };
+          told = record { lawful = tells.serves.lawful; panes = tells.serves.panes; parts = tells.serves.parts; staying = tells.serves.staying };
           grows = told_grows p old.told c.take.new.self k.fed (record { number = old.taken; event = e } ∷ []) all holds.grows tells;
           waiting = holds.waiting;
           remembers = remembers_on w (watermark w k.fed) (watermark w (e ∷ k.fed)) old.identifiers k.memory (mark_rises w k.fed (record { number = old.taken; event = e } ∷ [])) holds.remembers;

@@ -27,7 +27,7 @@ returns-then-not-is_new c = λ clocks p all k holds few clock.
     subst (λ (i : Option (List ℕ)). Passes w (watermark w k.fed) c.passes.new.identifiers i c.args.stamp.time k.memory c.in_ok-is_new.is_new) c.identifier.ensures (c.in_ok-is_new.ensures clocks p all k holds.told holds.remembers) in
     subst (λ (b : Bool). Goes clocks p all old (record old { identifiers = c.passes.new.identifiers; doubles = c.saturating_add-self.result }) k (if b then record { goes = []; kept = k } else passing_by w k old.taken (stamp_by c.args.voice c.args.stamp) c.args.stamp.time x) (if b then 1 else 0)) (sym (passes.answer ∙ ap not c.if-not-is_new.true)) (record {
       holds = record {
-        told = record { lawful = holds.told.lawful; panes = holds.told.panes; parts = holds.told.parts };
+        told = record { lawful = holds.told.lawful; panes = holds.told.panes; parts = holds.told.parts; staying = holds.told.staying };
         grows = holds.grows;
         waiting = holds.waiting;
         remembers = passes.double c.if-not-is_new.true;
@@ -61,7 +61,7 @@ returns-in-Some c = λ clocks p all k holds few clock.
     subst (λ (b : Bool). Goes clocks p all old new k (if b then record { goes = []; kept = k } else passing_by w k old.taken (stamp_by c.args.voice c.args.stamp) c.args.stamp.time x) (if b then 1 else 0)) (sym none)
     (subst (λ (o : Option Stamp). Goes clocks p all old new k (passing_by w k old.taken o c.args.stamp.time x) 0) (sym is) (record {
       holds = record {
-        told = record { lawful = tells.serves.lawful; panes = tells.serves.panes; parts = tells.serves.parts };
+        told = record { lawful = tells.serves.lawful; panes = tells.serves.panes; parts = tells.serves.parts; staying = tells.serves.staying };
         grows = told_grows p old.told new.told k.fed turn.goes all holds.grows tells;
         waiting = takes.hears;
         remembers = passes.noted c.if-not-is_new.false (watermark w (fed_with k.fed turn.goes)) (mark_rises w k.fed turn.goes);
@@ -91,7 +91,7 @@ returns-in-None c = λ clocks p all k holds few clock.
     subst (λ (b : Bool). Goes clocks p all old new k (if b then record { goes = []; kept = k } else passing_by w k old.taken (stamp_by c.args.voice c.args.stamp) time x) (if b then 1 else 0)) (sym none)
     (subst (λ (o : Option Stamp). Goes clocks p all old new k (passing_by w k old.taken o time x) 0) (sym is) (record {
       holds = record {
-        told = record { lawful = tells.serves.lawful; panes = tells.serves.panes; parts = tells.serves.parts };
+        told = record { lawful = tells.serves.lawful; panes = tells.serves.panes; parts = tells.serves.parts; staying = tells.serves.staying };
         grows = told_grows p old.told new.told k.fed turn.goes all holds.grows tells;
         waiting = holds.waiting;
         remembers = passes.noted c.if-not-is_new.false (watermark w (fed_with k.fed turn.goes)) (mark_rises w k.fed turn.goes);

@@ -1,5 +1,6 @@
-use Rattle.std.proofs.Common.{◌≡◌, ◌∙◌, ◌++◌, ◌∷◌, ℕ, List, true, map, Option, sym, ap, subst, append_assoc, append-nil}
+use Rattle.std.proofs.Common.{◌≡◌, ◌∙◌, ◌++◌, ◌∷◌, ℕ, List, true, map, Option, SFits, w64, to_z-of_z, sym, ap, subst, append_assoc, append-nil}
 use Rattle.std.proofs.lemmas.Result.{on_ok_weaker}
+use Rattle.std.specs.Prelude.{IfSome}
 use Rattle.wsm_record.specs.Event.{event_of}
 use Rattle.wsm_admission.specs.declared.verdict.Refusal.{Refusal}
 use Rattle.wsm_semantics.specs.Lines.{Out, refusal_lines}
@@ -13,7 +14,9 @@ use Rattle.wsm_part_engines.specs.Fits as parts
 use Rattle.wsm_keyed_told.specs.declared.told.KeyedTold.{KeyedTold}
 use Rattle.wsm_keyed_told.specs.KeyedLines.{event_text, keyed_lines}
 use Rattle.wsm_keyed_told.proofs.KeyedLines.{keyed_both, keyed_refusal}
+use Rattle.wsm_keyed_told.specs.Staying.{CutsAll}
 use Rattle.wsm_keyed_told.proofs.More.{by_more}
+use Rattle.wsm_keyed_told.proofs.ByNames.{fits_any}
 use Rattle.wsm_keyed_told.proofs.told.KeyedToldTaker.take.Goals as goal
 
 pub returns : goal.returns
@@ -25,13 +28,24 @@ returns c = on_ok_weaker c.add_rows.result (λ added p past serves.
     let is : parts.is_named names e ≡ true = sym (c.is_named.ensures names (sym c.len.ensures.len)) ∙ c.if-not-is_named.false in
     let feeds : Feeds old.parts c.feed_numbered.new.self e c.in_ok-reply.reply.refusal = c.in_ok-reply.ensures.feeds in
     let mid = c.tell.new.self in
-    let others : mid ≡ record old { parts = c.feed_numbered.new.self; lines = mid.lines } = c.in_ok-tell.ensures.others in
+    let before_fits : SFits w64 c.mark-before.result = record { sfits = c.mark-before.type_inv } in
+    let now_fits : SFits w64 c.mark-now.result = record { sfits = c.mark-now.type_inv } in
+    let others : mid ≡ record old { parts = c.feed_numbered.new.self; lines = mid.lines; staying = c.note.new.staying } = c.in_ok-tell.ensures.others in
     let fits : parts.Fits p names c.feed_numbered.new.self (e ∷ past) = feeds.fits p names past serves.parts is in
     record {
       serves = record {
         lawful = serves.lawful;
         panes = serves.panes;
         parts = subst (λ (t : KeyedTold). parts.Fits p t.names t.parts (e ∷ past)) (sym others) fits;
+        staying = subst (λ (t : KeyedTold). IfSome t.staying (λ k. CutsAll p k (e ∷ past))) (sym others)
+            (c.in_ok-note.ensures p past serves.staying (λ all named.
+            let any = fits_any p names old.parts past serves.parts all named.1 in
+            record {
+              verdict = feeds.verdict p all past any named.0;
+              selected = c.in_ok-reply.ensures.selected p all past any named.0;
+              before = to_z-of_z before_fits ∙ c.mark-before.ensures p all past any;
+              now = to_z-of_z now_fits ∙ c.mark-now.ensures p all (e ∷ past) (fits_any p names c.feed_numbered.new.self (e ∷ past) fits all named);
+            }));
       };
       names = ap (λ (t : KeyedTold). t.names) others;
       text = λ more.

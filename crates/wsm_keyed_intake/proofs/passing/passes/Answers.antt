@@ -5,7 +5,7 @@ use Rattle.wsm_turns.specs.Turns.{watermark}
 use Rattle.wsm_turns.specs.Known.{Passes, Remembers}
 use Rattle.wsm_turns.proofs.Remembering.{remembers_on}
 use Rattle.wsm_keyed_intake.specs.KeyedLog.{setting_by}
-use Rattle.wsm_keyed_intake.proofs.intake.passes.Goals as goal
+use Rattle.wsm_keyed_intake.proofs.passing.passes.Goals as goal
 
 pub returns-in-None : goal.returns-in-None
 returns-in-None c = λ clocks p all k serves remembers.
