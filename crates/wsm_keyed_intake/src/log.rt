@@ -5,7 +5,8 @@ ghost use Rattle.wsm_lines.specs.Key.{are_same};
 ghost use Rattle.wsm_turns.specs.Clocks.{AreClocks};
 ghost use Rattle.wsm_keyed_intake.specs.Run.{KeyedLogCounted, KeyedLogWritten};
 ghost use Rattle.wsm_keyed_intake.specs.Stops.{IsUnopened, IsUnrun, Stops};
-ghost use Rattle.wsm_keyed_intake.specs.Turns.{AreNamed, Fits, IsOpened};
+ghost use Rattle.wsm_keyed_intake.specs.GoesOn.{GoesOn};
+ghost use Rattle.wsm_keyed_intake.specs.Turns.{AreNamed, IsOpened};
 
 use crate::intake::KeyedIntake;
 use crate::run::{KeyedLogTotals, run_parts};
@@ -54,7 +55,8 @@ pub fn run_keyed_log<R: Read + Drop, D: Device, L: Listener>(
     Ok(totals)
 }
 
-/// What takes the lines of a log by any number of names, as [`run_keyed_log`] does, of which no line came.
+/// What takes the lines of a log by any number of names, as [`run_keyed_log`] does, of which no line came, and keeps what it needs to go
+/// on from a text.
 ///
 /// # Errors
 ///
@@ -68,12 +70,13 @@ pub fn open_keyed_log(
     most: u32,
 ) -> Result<KeyedIntake, KeyedLogStop>
     requires { AreClocks clocks }
-    ensures fits { IfOk result (λ intake.
-        Fits (record { program = verified; source = source; clocks = clocks; names = names; most = most }) intake []) }
+    ensures goes_on { IfOk result (λ intake.
+        GoesOn (record { program = verified; source = source; clocks = clocks; names = names; most = most }) intake []) }
+    ensures named { OnOk result (AreNamed clocks) }
     ensures unrun { IfErr result (IsUnrun (record { program = verified; source = source; clocks = clocks; names = names; most = most })) }
 {
     let parts = parts_for(alloc, verified, &source, clocks)?;
-    match KeyedIntake::open(alloc, parts, source, clocks, names, most) {
+    match KeyedIntake::open_kept(alloc, parts, source, clocks, names, most) {
         Ok(intake) => Ok(intake),
         Err(_) => Err(KeyedLogStop::End(LogEnd::Memory)),
     }

@@ -1,19 +1,22 @@
 -- What takes the lines of a log by any number of names, as it is seen.
-use Rattle.std.specs.Prelude.{ℕ, List}
+use Rattle.std.specs.Prelude.{◌≡◌, ℕ, List}
 use Rattle.wsm_keyed_intake.specs.declared.intake.KeyedIntake.{KeyedIntake}
 use Rattle.wsm_keyed_intake.specs.KeyedLog.{KeyedLog}
-use Rattle.wsm_keyed_intake.specs.Turns.{Fits}
+use Rattle.wsm_keyed_intake.specs.GoesOn.{GoesOn}
+use Rattle.wsm_keyed_intake.specs.Saved.{Saved}
 use Rattle.wsm_live_run.specs.declared.keyed_log_lines.KeyedLogLines.{KeyedLogLines}
 use Rattle.wsm_live_run.specs.KeyedTurns.{AreAllTurns}
 
--- it took these lines, the newest first, and what was written for them hangs on no name that comes later
+-- it took these lines, the newest first, or goes on from what they came to, and what was written for them hangs on no name that comes later
 pub record KeyedStands (l : KeyedLogLines) (g : KeyedLog) (before : List (List ℕ)) : Type 0 where
-  pub fits : Fits g l.intake before
+  pub clocks : l.clocks ≡ g.clocks
+  pub goes_on : GoesOn g l.intake before
   pub turns : AreAllTurns g before
 
--- no text says what lines come to
-abbrev pub KeyedSavedBy : List ℕ → KeyedLog → List (List ℕ) → Type 0
-KeyedSavedBy text g before = ⊥
+-- a text says what these lines come to, for which was written what hangs on no name that comes later
+pub record KeyedSavedBy (text : List ℕ) (g : KeyedLog) (before : List (List ℕ)) : Type 0 where
+  pub saved : Saved g before text
+  pub turns : AreAllTurns g before
 
 abbrev pub keyed_bytes_of : KeyedLogLines → List ℕ
 keyed_bytes_of l = l.intake.told.lines.items

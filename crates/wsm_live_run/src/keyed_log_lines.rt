@@ -1,5 +1,9 @@
 //! Who takes the lines of a log by any number of names.
 
+ghost use Rattle.std.specs.Prelude.{◌≡◌, true};
+ghost use Rattle.wsm_turns.specs.Clocks.{AreClocks};
+ghost use Rattle.wsm_live_run.specs.Known.{AreClocks-prop, have_names, have_names-prop};
+
 use std::alloc::{AllocError, Global};
 use wsm_key_names::KeyNames;
 use wsm_keyed_intake::{KeyedIntake, KeyedLogStop, open_keyed_log};
@@ -12,7 +16,11 @@ use wsm_turns::Clocks;
 /// names, in their order, so whoever takes the same lines again gives each name the same number.
 #[derive(Drop)]
 pub struct KeyedLogLines {
+    alloc: Global,
     intake: KeyedIntake,
+    clocks: Option<Clocks>,
+    ghost are_clocks: { AreClocks clocks } by { AreClocks-prop clocks },
+    ghost are_named: { have_names clocks ≡ true } by { have_names-prop clocks },
     // The names before the first line.
     first: usize,
 }
@@ -43,7 +51,12 @@ impl KeyedLogLines {
     {
         let first = names.len();
         match open_keyed_log(alloc, verified, source, clocks, names, most) {
-            Ok(intake) => Ok(KeyedLogLines { intake, first }),
+            Ok(intake) => Ok(KeyedLogLines {
+                alloc,
+                intake,
+                clocks,
+                first,
+            }),
             Err(stop) => Err(stop),
         }
     }
@@ -84,12 +97,19 @@ impl LineTaker for KeyedLogLines {
         self.intake.lines()
     }
 
-    // What lines come to by any number of names isn't said as a text.
     fn save(&mut self, text: &mut Vec<u8>) -> Result<bool, AllocError> {
-        Ok(false)
+        self.intake.save(text)
     }
 
     fn resume(self, text: &[u8]) -> Result<Option<Self>, AllocError> {
-        Ok(None)
+        match self.intake.resume(self.alloc, self.clocks, text)? {
+            Some(intake) => Ok(Some(KeyedLogLines {
+                alloc: self.alloc,
+                intake,
+                clocks: self.clocks,
+                first: self.first,
+            })),
+            None => Ok(None),
+        }
     }
 }

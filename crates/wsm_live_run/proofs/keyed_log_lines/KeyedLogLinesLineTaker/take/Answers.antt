@@ -4,12 +4,9 @@ use Rattle.wsm_live_run.proofs.keyed_log_lines.KeyedLogLinesLineTaker.take.Goals
 
 pub returns-clause-stands : goal.returns-clause-stands
 returns-clause-stands c = λ g before was.
-    on_ok_weaker c.take.result (λ turned.
-    record {
-      fits = record { reads = turned.reads; by = λ later. (turned.by later).fits };
-      turns = next_turns g before c.args.line.now c.take.new.self.told.lines.items (λ later. (turned.by later).text) was.turns;
-    }) (c.take.ensures g before was.fits)
+    on_ok_weaker c.take.result (λ gone.
+    record { clocks = was.clocks; goes_on = gone.goes_on; turns = next_turns g before c.args.line.now c.take.new.self.told.lines.items gone.text was.turns }) (c.take.ensures.goes_on g before was.goes_on)
 
 pub returns-clause-written : goal.returns-clause-written
 returns-clause-written c = λ g before was.
-    on_ok_weaker c.take.result (λ turned. turn_written g before c.args.line.now c.take.new.self.told.lines.items (λ later. (turned.by later).text)) (c.take.ensures g before was.fits)
+    on_ok_weaker c.take.result (λ gone. turn_written g before c.args.line.now c.take.new.self.told.lines.items gone.text) (c.take.ensures.goes_on g before was.goes_on)
