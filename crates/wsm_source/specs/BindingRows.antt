@@ -58,6 +58,7 @@ abbrev says : Format → List ℕ → KeyNaming → List FieldDescription → De
 says format at naming fields = record {
   format = format;
   longest = 1000;
+  keys = None;
   key = record { at = at; naming = naming };
   time = record { at = codes "time"; form = Instant; unit = Seconds };
   fields = fields;
