@@ -30,7 +30,7 @@ impl<W: Write> Guarded<W> {
         }
     }
 
-    /// The writer, with what it took. For users of the library; the program lets its device go.
+    /// The writer, with what it took.
     pub fn into_writer(self) -> W
     where
         W: Drop,

@@ -102,12 +102,6 @@ module _ (c : Clock) (shape : Shape) (mark : ℤ) (identifier : List ℕ) (entri
   no_count : bytes_eq identifier (get_or entries number no_entry).0 ≡ false → counts_as c shape mark identifier (get_or entries number no_entry) ≡ false
   no_count off = ap (λ (b : Bool). may_count c shape mark (get_or entries number no_entry) && b) off ∙ and-false (may_count c shape mark (get_or entries number no_entry))
 
-  -- another text stands there
-  pub text_differs : (text : List ℕ) (r v : Bool) → text ≡ (get_or inside number no_entry).0 → r ≡ bytes_eq identifier text → v ≡ r → v ≡ false → v ≡ counts_as c shape mark identifier (get_or entries number no_entry)
-  text_differs text r v at is value off =
-      off
-      ∙ sym (no_count (ap (bytes_eq identifier) (ap (λ (m : Memory). (get_or m number no_entry).0) (sym same) ∙ sym at) ∙ sym is ∙ sym value ∙ off))
-
   -- a text with another hash
   pub hash_differs : (hashes : List ℕ) (hash told : ℕ) (v : Bool) → hashes ≡ hashes_in inside → number < length inside → told ≡ get_or hashes number 0 → hash ≡ hash_of identifier → (told ≡ hash → ⊥) → v ≡ false
       → v ≡ counts_as c shape mark identifier (get_or entries number no_entry)

@@ -1,5 +1,5 @@
 -- A line that ends, in what comes of some bytes.
-use Rattle.std.proofs.Common.{◌≡◌, ◌<◌, ◌∙◌, ◌+◌, ℕ, List, [], ◌∷◌, ◌++◌, Option, Some, None, MatchOption, Ok, Err, Bool, true, false, ap, append_assoc, arith, drop, length, map, refl, sym, take, if◌then◌else◌}
+use Rattle.std.proofs.Common.{◌≡◌, ◌<◌, ◌∙◌, ◌+◌, ℕ, List, [], ◌∷◌, ◌++◌, Option, Some, None, MatchOption, Ok, Err, Bool, true, false, ap, arith, drop, length, map, refl, sym, take, if◌then◌else◌}
 use Rattle.std.proofs.lemmas.List.{take-take}
 use Rattle.memchr.specs.Find.{IsFirstByte, is_byte}
 use Rattle.wsm_log.specs.LinesOf.{HasNoFeed}
@@ -8,7 +8,7 @@ use Rattle.wsm_log.proofs.LinesLemmas.{HasNoFeed-before, HasNoFeed-none}
 use Rattle.wsm_follow.specs.Ended.{ended_from, ended_lines}
 use Rattle.wsm_follow.proofs.EndedLemmas.{ended-alike, ended-plain}
 use Rattle.wsm_fed.specs.Fed.{Stand, Step, came_by, came_from, step, with_chunk}
-use Rattle.wsm_fed.specs.Seen.{Ends, EndsBy, Hears, Stops, StopsAt, Went, came_of, chunk_in, left_in, stand_in, stand_of}
+use Rattle.wsm_fed.specs.Seen.{EndsBy, Hears, StopsAt, Went, came_of, chunk_in, left_in, stand_in, stand_of}
 use Rattle.wsm_fed.specs.declared.fault.FedFault.{FedFault}
 use Rattle.wsm_fed.specs.declared.fault.FedFault.TheVariants as fault
 use Rattle.wsm_fed.specs.declared.fed.Fed.{Fed}
@@ -88,29 +88,10 @@ ends_broken f h line (fault.Line number why) given plain hears = λ rest. heard_
 abbrev pub Took : Fed → List ℕ → Fed → List ℕ → Type 0
 Took old bytes f rest = (more : List ℕ) → came_of old (bytes ++ more) ≡ came_of f (rest ++ more)
 
--- a line of those that are left, and what stands behind it
-parted : (text : List ℕ) (end : ℕ) (more : List ℕ) → text ≡ take end text ++ 10 ∷ drop (end + 1) text → text ++ more ≡ take end text ++ 10 ∷ (drop (end + 1) text ++ more)
-parted text end more parts = ap (λ (xs : List ℕ). xs ++ more) parts ∙ append_assoc (take end text) (10 ∷ drop (end + 1) text) more
-
-pub took_line : (old f n : Fed) (bytes text : List ℕ) (end : ℕ) → Took old bytes f text → text ≡ take end text ++ 10 ∷ drop (end + 1) text → Ends f (take end text) n (Ok false) → Took old bytes n (drop (end + 1) text)
-took_line old f n bytes text end took parts ends = λ more. took more ∙ ap (came_of f) (parted text end more parts) ∙ ends (drop (end + 1) text ++ more)
-
-pub went_line : (old f n : Fed) (bytes text : List ℕ) (end : ℕ) → Took old bytes f text → text ≡ take end text ++ 10 ∷ drop (end + 1) text → Ends f (take end text) n (Ok true) → Went old bytes n (Some (drop (end + 1) text))
-went_line old f n bytes text end took parts ends = λ more. took more ∙ ap (came_of f) (parted text end more parts) ∙ ends (drop (end + 1) text ++ more)
-
-pub stopped_line : (old f n : Fed) (bytes text : List ℕ) (end : ℕ) (why : FedFault) → Took old bytes f text → text ≡ take end text ++ 10 ∷ drop (end + 1) text → Ends f (take end text) n (Err why) → Stops old bytes why
-stopped_line old f n bytes text end fault.Memory took parts ends = tt
-stopped_line old f n bytes text end fault.Other took parts ends = λ more. took more ∙ ap (came_of f) (parted text end more parts) ∙ ends (drop (end + 1) text ++ more)
-stopped_line old f n bytes text end (fault.Line number why) took parts ends = λ more. took more ∙ ap (came_of f) (parted text end more parts) ∙ ends (drop (end + 1) text ++ more)
-
 -- the last ones end no line
 pub went_all : (old f n : Fed) (bytes text : List ℕ) → Took old bytes f text → HasNoFeed text → stand_of n ≡ stand_of f → n.most ≡ f.most → n.part.items ≡ take f.most (f.part.items ++ text) → Went old bytes n None
 went_all old f n bytes text took plain stands most part = λ more.
     took more ∙ piece_came (stand_of f) f.most f.part.items text more plain ∙ sym (came_by_parts n (stand_of f) f.most (take f.most (f.part.items ++ text)) more stands most part)
-
--- nothing was taken yet
-pub took_none : (old f : Fed) (bytes : List ℕ) → stand_of f ≡ stand_of old → f.most ≡ old.most → f.part.items ≡ old.part.items → Took old bytes f bytes
-took_none old f bytes stands most part = λ more. sym (came_by_parts f (stand_of old) old.most old.part.items (bytes ++ more) stands most part)
 
 pub stand_same : (n f : Fed) → n.held ≡ f.held → n.is_given ≡ f.is_given → stand_of n ≡ stand_of f
 stand_same n f held given = ap (λ (h : Held). stand_by h n.is_given) held ∙ ap (stand_by f.held) given

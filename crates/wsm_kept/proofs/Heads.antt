@@ -9,7 +9,7 @@ use Rattle.wsm_kept.specs.declared.end.KeepEnd.{KeepEnd}
 use Rattle.wsm_kept.specs.declared.end.KeepEnd.TheVariants as ends
 use Rattle.wsm_kept.specs.declared.head.Head.{Head}
 use Rattle.wsm_kept.specs.Ends.{FirstEnds, HeadEnds}
-use Rattle.wsm_kept.specs.Head.{IsSaid, Says, head_cells, head_text, is_tagged, no_head}
+use Rattle.wsm_kept.specs.Head.{IsSaid, head_cells, head_text, is_tagged}
 use Rattle.wsm_kept.specs.Kept.{Cells}
 use Rattle.wsm_kept.proofs.Back.{head_row_text}
 
@@ -55,8 +55,3 @@ first_ends sum row ends.FewerLines h = absurd h
 first_ends sum row ends.ReadFailed h = absurd h
 first_ends sum row ends.Memory h = tt
 first_ends sum row ends.WriteFailed h = absurd h
-
--- a row that says what isn't the head of none begins as a head does
-pub says_tagged : (row : Cells) (h : Head) → (b : Bool) → is_tagged row ≡ b → Says row h → (h ≡ no_head → ⊥) → is_tagged row ≡ true
-says_tagged row h true e says other = e
-says_tagged row h false e says other = absurd (other (rw e at says))

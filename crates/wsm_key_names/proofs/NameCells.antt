@@ -1,5 +1,5 @@
 -- Cells of names, byte by byte, and what is kept of them.
-use Rattle.std.proofs.Common.{◌≡◌, ◌∙◌, ◌==◌, ◌+◌, ◌<◌, ◌≤◌, ◌++◌, ◌∷◌, [], ℕ, zero, suc, List, Bool, true, false, map, length, get_or, take, refl, sym, ap, append_assoc, inl, inr, arith}
+use Rattle.std.proofs.Common.{◌≡◌, ◌∙◌, ◌==◌, ◌+◌, ◌<◌, ◌++◌, ◌∷◌, [], ℕ, zero, suc, List, Bool, true, false, map, length, get_or, take, refl, sym, ap, append_assoc, inl, inr}
 use Rattle.std.specs.Prelude.{Some, slice_get}
 use Rattle.std.proofs.lemmas.Bool.{cases_Bool, eq-eqb, ne_eqb}
 use Rattle.std.proofs.lemmas.List.{take_more}
@@ -81,12 +81,3 @@ module _ {V : Type 0} (items : V → List ℕ) where
   cell_bare (k ∷ ks) (x ∷ xs) (suc i) c e at none =
       let rest : map items xs ≡ map (λ v. kept_of (items v)) ks = cc in
       cell_bare ks xs i c rest at none
-
-  -- past the last there is none
-  pub no_cell : (keys cells : List V) (i : ℕ) → map items cells ≡ map (λ v. kept_of (items v)) keys → length cells ≤ i → name_at (cells_of (map items keys)) i ≡ []
-  no_cell [] cells i e past = refl
-  no_cell (k ∷ ks) [] i e past = cc e
-  no_cell (k ∷ ks) (x ∷ xs) zero e past = absurd (omega (arith, past))
-  no_cell (k ∷ ks) (x ∷ xs) (suc i) e past =
-      let rest : map items xs ≡ map (λ v. kept_of (items v)) ks = cc in
-      no_cell ks xs i rest (omega (arith, past))

@@ -98,7 +98,3 @@ pub event_teaches : (most : ℕ) (s : Source) (names before : List (List ℕ)) (
     → said_of s no_names before line ≡ Ok e → key_text_of s before line ≡ Some text → names_after_line most s names before line ≡ learned most names text
 event_teaches most s names before line text e says key =
     ap (λ r. if is_ok r then learned_of most names (key_text_of s before line) else names) says ∙ ap (learned_of most names) key
-
-pub fault_teaches_none : (most : ℕ) (s : Source) (names before : List (List ℕ)) (line : List ℕ) (why : LineFault)
-    → said_of s no_names before line ≡ Err why → names_after_line most s names before line ≡ names
-fault_teaches_none most s names before line why says = ap (λ r. if is_ok r then learned_of most names (key_text_of s before line) else names) says

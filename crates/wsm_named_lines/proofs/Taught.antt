@@ -25,9 +25,6 @@ row_of text = codes "r" ∷ text ∷ codes "0" ∷ []
 abbrev taught : ℕ → List (List ℕ) → List (List ℕ) → List (List ℕ)
 taught most names texts = names_after_rows most no_names names (map row_of texts)
 
-row_teaches : (most : ℕ) (names : List (List ℕ)) (text : List ℕ) → names_after most no_names names (row_of text) ≡ learned most names text
-row_teaches most names text = refl
-
 abbrev key_said : Result Event RowFault → Option ℕ
 key_said (Ok (Record key time values)) = key
 key_said (Ok (Watermark source time)) = None

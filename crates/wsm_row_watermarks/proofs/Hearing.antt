@@ -3,15 +3,14 @@ use Rattle.std.proofs.Common.{◌≡◌, ◌∙◌, Bool, List, ◌∷◌, ℤ, 
 use Rattle.wsm_record.specs.Event.{Event, Record, Watermark}
 use Rattle.wsm_record.specs.Schema.{Declared}
 use Rattle.wsm_windows.specs.declared.window.Shape.{Shape}
-use Rattle.wsm_admission.specs.declared.clock.Clock.{Clock}
 use Rattle.wsm_admission.specs.declared.verdict.Admitted.{Admitted}
 use Rattle.wsm_admission.specs.declared.verdict.Admitted.TheVariants as admitted
 use Rattle.wsm_admission.specs.declared.verdict.Refusal.{Refusal}
 use Rattle.wsm_admission.specs.declared.verdict.Refusal.TheVariants as refusal
-use Rattle.wsm_admission.specs.Admission.{Decides, State, after, answer, counter}
+use Rattle.wsm_admission.specs.Admission.{Decides, State, after, answer}
 use Rattle.wsm_admission.specs.Admission as admission
-use Rattle.wsm_admission.specs.Clock.{late_count, source_mark, verdict, watermark_of}
-use Rattle.wsm_turns.specs.Turns.{Setting, watermark}
+use Rattle.wsm_admission.specs.Clock.{source_mark, verdict, watermark_of}
+use Rattle.wsm_turns.specs.Turns.{Setting}
 use Rattle.wsm_row_watermarks.specs.Handed.{Marks}
 use Rattle.wsm_row_watermarks.specs.Latest.{latest_time, latest_with}
 
@@ -39,14 +38,6 @@ decided w shape d old new first next e r past shaped declared marked decides mar
       (subst (λ (x : Declared). admission.Fits w.shape x old past) (sym declared) marks.fits))));
   first = marked;
 }
-
--- the watermark that is kept is the history's
-pub mark_is : (w : Setting) (a : State) (first : ℤ) (past : List Event) → Marks w a first past → a.mark ≡ watermark w past
-mark_is w a first past marks = marks.fits.mark ∙ ap (λ (c : Clock). watermark_of c w.declared past) marks.clock
-
--- so many of its records were late
-pub late_is : (w : Setting) (a : State) (first : ℤ) (past : List Event) → Marks w a first past → a.late ≡ counter (late_count w.clock w.shape w.declared past)
-late_is w a first past marks = marks.fits.late ∙ ap (λ (c : Clock). counter (late_count c w.shape w.declared past)) marks.clock
 
 -- the answer is a refusal where a rule refuses
 refused_so : (old new : ℤ) (e : Event) (why : Option Refusal) → is_err (answer old new e why) ≡ is_some why
