@@ -1,18 +1,15 @@
 //! The jobs of the program, each in a file of its own.
 
-use crate::deals::deal_or_tell;
 use crate::judging::{explain, verify};
-use crate::keeps::keep;
-use crate::lives::live;
-use crate::logs::write_log_rows;
 use crate::programs::{compile, migrated};
-use crate::runs::run;
-use crate::stop::Stop;
-use crate::watermarks::follow;
 use std::fs::File;
 use std::io::Eprint;
 use std::rt::Files;
 use std::time::Clock;
+use wsm_job::Stop;
+use wsm_live_job::live;
+use wsm_row_jobs::{deal_or_tell, follow, keep};
+use wsm_run_job::{run, write_log_rows};
 use wsm_words::Job;
 
 /// Does the job; somebody may look at standard error meanwhile. It is false where a program was judged and rejected.

@@ -1,14 +1,13 @@
 //! What is written of the judgement of a program.
 
-use crate::files::{accepted, input_of, read};
+use crate::explaining::tell;
 use crate::parted::tell_parts;
-use crate::sources::source_for;
-use crate::stop::Stop;
-use crate::telling::tell;
 use std::io;
 use std::rt::Files;
 use wsm::{End, Guarded, judge_input};
+use wsm_job::{Stop, accepted, input_of, read};
 use wsm_rules::Verified;
+use wsm_source_file::source_for;
 use wsm_words::{ExplainJob, VerifyJob};
 
 /// Judges a program, or a query's, and a source that is to fit it.

@@ -5,32 +5,13 @@
 //! the words' refusal has `clap`'s own text.
 #![tactic(auto)]
 
-mod counting;
-mod counts;
-mod deals;
-mod files;
+mod explaining;
 mod jobs;
 mod judging;
-mod keeps;
-mod keyed;
-mod keyed_logs;
-mod live_settings;
-mod lives;
-mod logs;
-mod metrics;
-mod names;
-mod numbers;
 mod parted;
 mod programs;
-mod progress;
-mod runs;
-mod sources;
-mod stop;
-mod telling;
-mod watermarks;
 
 use crate::jobs::done;
-use crate::stop::{REFUSED_WORDS, Stop, WordsFault};
 use std::alloc::Global;
 use std::env;
 use std::fs::File;
@@ -39,6 +20,7 @@ use std::process::ExitCode;
 use std::rt::{Env, Files};
 use std::time::Clock;
 use wsm::{End, REJECTED_STATUS};
+use wsm_job::{REFUSED_WORDS, Stop, WordsFault};
 use wsm_words::{Job, WordsRefusal, command_of};
 
 fn main(rt: HostRuntime) -> ExitCode {

@@ -1,10 +1,8 @@
 //! What so many keys take.
 
-use crate::files::{read, write_all};
-use crate::numbers::number_in;
-use crate::stop::{Stop, WordsFault};
 use std::io;
 use std::rt::Files;
+use wsm_job::{Stop, WordsFault, number_in, read, write_all};
 use wsm_key_memory::{bytes_of_keys, parts_of};
 use wsm_keyed_run::checked_by_places;
 use wsm_words::VerifyJob;

@@ -1,10 +1,9 @@
 //! Programs that are written to files.
 
-use crate::files::{end_of, read, write_all};
-use crate::stop::Stop;
 use std::fs::File;
 use std::rt::Files;
 use wsm::{End, compile_text, migrate};
+use wsm_job::{Stop, end_of, read, write_all};
 use wsm_words::{CompileJob, MigrateJob};
 
 /// Writes the program of a query to a file.

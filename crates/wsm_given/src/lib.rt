@@ -1,5 +1,5 @@
 //! What examples and trials start from: queries, the bytes of their programs, rows for them, and what
-//! is written. Each was worked out by hand, or stands in the formats. There are constants alone.
+//! is written. Each was worked out by hand, or stands in the formats. [`is_whole`] tells a run that ended.
 #![tactic(auto)]
 
 /// Counts the records of two keys in windows of 60, and sums a number.
@@ -86,3 +86,14 @@ pub const STREAM_TEXT: &[u8] = b"istream,35,1,false,b\nistream,35,1,true,a\nistr
 istream,60,1,false,b\nistream,60,2,true,a\nistream,60,2,true,a\nistream,60,2,true,b\n\
 istream,160,1,false,a\nistream,160,1,false,a\nistream,160,1,false,a\nistream,160,1,true,b\n\
 end,10,5,0,0,13\n";
+
+/// Whether a text is that of a whole run: its last line is an end row.
+pub fn is_whole(text: &[u8]) -> bool {
+    let Some(lines) = text.strip_suffix(b"\n") else {
+        return false;
+    };
+    match lines.rsplit(|byte| *byte == b'\n').next() {
+        Some(last) => last.starts_with(b"end,"),
+        None => false,
+    }
+}

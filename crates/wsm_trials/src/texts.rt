@@ -1,11 +1,11 @@
 //! Queries of which a byte was changed.
 
-use crate::running::{is_whole, ran};
+use crate::running::ran;
 use std::alloc::Global;
 use std::process::Abort;
 use std::test::Fail;
 use wsm::{End, InputRefusal, Position};
-use wsm_given::{BASE, BASE_ROWS, BASE_TEXT};
+use wsm_given::{BASE, BASE_ROWS, BASE_TEXT, is_whole};
 
 /// How a text was taken.
 #[derive(Clone, Copy, Debug, PartialEq, Eq)]

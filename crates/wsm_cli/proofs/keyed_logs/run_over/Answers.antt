@@ -1,4 +1,0 @@
-use Rattle.wsm_cli.proofs.keyed_logs.run_over.Goals as goal
-
-pub returns : goal.returns
-returns g c = (_, _, c.in_ok-run.ensures.completes)

@@ -1,4 +1,0 @@
-use Rattle.wsm_cli.proofs.logs.Ready.run.Goals as goal
-
-pub returns : goal.returns
-returns g c = λ input m accepted means. (_, _, (c.in_ok-end.ensures.ends input accepted).completes m means)
