@@ -1,10 +1,16 @@
 -- The clocks of a log, and the records that wait for them.
-use Rattle.std.specs.Prelude.{◌<◌, ◌≤◌, ℕ, Option, Some, None, IfSome, ⊤, unwrap_or}
+use Rattle.std.specs.Prelude.{◌≡◌, ◌⊎◌, ◌+◌, ◌-◌, ◌<◌, ◌≤◌, ◌<ℤ◌, ◌||◌, if◌then◌else◌, nat_eq, nat_lt, ℕ, ℤ, pos, Option, Some, None, IfSome, IsSomeAnd, ⊤, unwrap_or}
 use Rattle.wsm_watermarks.specs.declared.clocks.TheConstants.{MOST_AGREEING}
 use Rattle.wsm_watermarks.specs.declared.held.TheConstants.{MOST_HELD}
 use Rattle.wsm_watermarks.specs.declared.rule.Rule.{Rule}
 use Rattle.wsm_watermarks.specs.declared.table.TheConstants.{MOST_CLOCKS}
 use Rattle.wsm_turns.specs.declared.clocks.Clocks.{Clocks}
+
+-- the rule by which these numbers have a watermark go: none where no clock or too many have to agree, or a step is 0
+abbrev pub rule_by : (agree bound step forget start : ℕ) → Option Rule
+rule_by agree bound step forget start =
+    if nat_eq agree 0 || nat_lt MOST_AGREEING agree || nat_eq step 0 then None
+    else Some (record { agree = agree; forget = forget; bound = bound; step = step; start = start })
 
 -- some clocks have to agree, and watermarks go in steps
 pub record IsRule (rule : Rule) : Type 0 where
@@ -17,6 +23,12 @@ pub record IsClocks (c : Clocks) : Type 0 where
   pub rule : IsRule c.rule
   pub room : c.room ≤ MOST_HELD
   pub named : IfSome c.named (λ most. most ≤ MOST_CLOCKS)
+
+-- there are none by these numbers: no rule, a SKEW by which a record that waited could be refused for it, too many that may wait, or
+-- too many that lines may name
+abbrev pub HaveNoClocks : (agree bound step forget room : ℕ) → Option ℕ → ℕ → ℤ → Type 0
+HaveNoClocks agree bound step forget room named start skew =
+    (rule_by agree bound step forget start ≡ None) ⊎ (skew <ℤ pos (bound + step - 1)) ⊎ (MOST_HELD < room) ⊎ IsSomeAnd named (λ most. MOST_CLOCKS < most)
 
 abbrev pub AreClocks : Option Clocks → Type 0
 AreClocks None = ⊤

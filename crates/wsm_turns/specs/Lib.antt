@@ -1,5 +1,6 @@
 pub mod Numbered
 pub mod Clocks
+pub mod ClockRows
 pub mod Voices
 pub mod VoiceRows
 pub mod Named

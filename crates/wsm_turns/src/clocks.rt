@@ -1,9 +1,10 @@
 //! The clocks of a log.
 
-ghost use Rattle.std.specs.Prelude.{◌≡◌, ◌+◌, ◌≤◌, IfSome, pos, unsigned_abs};
+ghost use Rattle.std.specs.Prelude.{◌≡◌, ◌+◌, ◌<◌, ◌≤◌, IfNone, IfSome, IsSomeAnd, Some, pos, unsigned_abs};
 ghost use Rattle.wsm_record.specs.Event.{event_of};
+ghost use Rattle.wsm_watermarks.specs.declared.table.TheConstants.{MOST_CLOCKS};
 ghost use Rattle.wsm_admission.specs.Clock.{fits_declared};
-ghost use Rattle.wsm_turns.specs.Clocks.{AreClocks, IsClocks, IsRule, count_in, named_in};
+ghost use Rattle.wsm_turns.specs.Clocks.{AreClocks, HaveNoClocks, IsClocks, IsRule, count_in, named_in, rule_by};
 ghost use Rattle.wsm_turns.specs.Turns.{mark_at, stamp_of};
 
 use wsm_admission::has_fitting_values;
@@ -29,6 +30,7 @@ pub struct Clocks {
 /// it and goes in such steps, and a clock is heard while its last record is among so many last ones. There is none where no
 /// clock or more than [`MOST_AGREEING`] have to agree, or a step is 0. Times and spans are in units of event time.
 pub fn rule_of(agree: u64, bound: u64, step: u64, forget: u64, start: i64) -> Option<Rule>
+    ensures by { result ≡ rule_by agree bound step forget (unsigned_abs start) }
     ensures rule { IfSome result IsRule }
     ensures start { IfSome result (λ r. r.start ≡ unsigned_abs start) }
 {
@@ -62,6 +64,9 @@ pub fn clocks_of(
     ensures start { IfSome result (λ c. c.rule.start ≡ unsigned_abs start) }
     ensures ahead { IfSome result (λ c. pos c.ahead ≡ skew) }
     ensures named { IfSome result (λ c. c.named ≡ named) }
+    ensures by { IfSome result (λ c. Some c.rule ≡ rule_by agree bound step forget (unsigned_abs start)) }
+    ensures room { IfSome result (λ c. c.room ≡ room) }
+    ensures none { IfNone result (HaveNoClocks agree bound step forget room named (unsigned_abs start) skew) }
     ensures in_time { IfSome result (λ c. c.rule.bound + c.rule.step ≤ c.ahead + 1) }
 {
     let rule = rule_of(agree, bound, step, forget, start)?;
@@ -80,6 +85,7 @@ pub fn clocks_of(
 // How many clocks may be named, where that is said and aren't too many.
 fn most_named(named: Option<u64>) -> Option<Option<usize>>
     ensures same { IfSome result (λ most. most ≡ named) }
+    ensures many { IfNone result (IsSomeAnd named (λ most. MOST_CLOCKS < most)) }
     ensures few { IfSome result (λ most. IfSome most (λ n. n ≤ MOST_CLOCKS)) }
 {
     match named {
