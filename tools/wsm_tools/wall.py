@@ -10,8 +10,9 @@ and renewed as a whole. With --every it is written anew each so many SECONDS, th
 that wasn't renewed for three times as long says so in red.
 
 The first column stands large, the others below; bars are its windows that ended within HOURS (6 where it is left out) of
-the newest one. The 9 first keys are shown, or those of --keys; of the others their number. Times are of ZONE, UTC where
-it is left out, and numbers of UNIT, `s`, `ms` or `us`, since 1970. Rows that were late are known behind an end row alone.
+the newest one, each key by its own scale. The 9 first keys are shown, or those of --keys; of the others their number. Times
+are of ZONE, UTC where it is left out, with their day unless it is today, and numbers of UNIT, `s`, `ms` or `us`, since 1970.
+Rows that were late are known behind an end row alone.
 
 It ends with status 2 by its words, 6 where TABLE can't be read or has no panes, 7 where PAGE can't be written, and where
 INT or TERM ends it, with 128 and their number.
@@ -22,7 +23,7 @@ import math
 import os
 import time
 from html import escape
-from typing import TYPE_CHECKING, Dict, List, NamedTuple, Sequence, Tuple
+from typing import TYPE_CHECKING, Dict, List, NamedTuple, Optional, Sequence, Tuple
 
 from . import telling
 from .tables import Server
@@ -31,23 +32,25 @@ from .times import UNITS, moment, zone_of
 
 if TYPE_CHECKING:
     from argparse import Namespace
+    from datetime import datetime
 
-MOST_KEYS = 9
+MOST_KEYS, MOST_WORDS = 9, 4
 UNKNOWN = -1  # of what no end row told
 KINDS = {"early": "so far", "on_time": "complete", "late": "corrected", "final": "final"}
 PATIENCE = 3  # times that a page may not be renewed
 STYLE = """
 * { box-sizing: border-box; margin: 0 }
 body { background: #101418; color: #f4f6f8; font: 3.2vh/1.2 sans-serif; height: 100vh; padding: 2vh 2vw; display: flex; flex-direction: column; gap: 2vh }
-header, footer { display: flex; flex-wrap: wrap; justify-content: space-between; gap: 0 3vw; align-items: baseline }
-h1 { font-size: 5vh } .now { font-size: 7vh; font-weight: bold }
+header, footer { display: flex; justify-content: space-between; gap: 0 3vw; align-items: baseline; white-space: nowrap } footer { flex-wrap: wrap }
+h1 { font-size: 5vh; display: flex; min-width: 0; flex: 1 } .now { font-size: 7vh; font-weight: bold }
 main { flex: 1; min-height: 0; display: grid; grid-auto-rows: minmax(0, 1fr); gap: 1.5vh 1vw }
-section { background: #1c232b; border-radius: 1vh; padding: 1vh 1vw; display: flex; flex-direction: column; min-height: 0; overflow: hidden }
-h2 { font-size: 4vh; display: flex; justify-content: space-between; align-items: baseline; gap: 1vw; white-space: nowrap }
-h2 span, p { overflow: hidden; text-overflow: ellipsis; white-space: nowrap } h2 b { font-size: var(--large); line-height: 1.1 } .behind { color: #9aa7b4 }
-svg { flex: 1; min-height: 0; width: 100% } rect { fill: #4da3ff } .axis { display: flex; justify-content: space-between }
+section { background: #1c232b; border-radius: 1vh; padding: 1vh 1vw; display: flex; flex-direction: column; min-width: 0; min-height: 0; overflow: hidden }
+h2 { font-size: 4vh } h2, h3, p, h1 span { overflow: hidden; text-overflow: ellipsis; white-space: nowrap } .behind { color: #9aa7b4 }
+.more { white-space: normal; display: -webkit-box; -webkit-box-orient: vertical; -webkit-line-clamp: var(--lines); overflow-wrap: anywhere; flex: none }
+svg { flex: 1; min-height: 0; width: 100% } rect { fill: #4da3ff }
 .bad { color: #ffb020 } #old { display: none; background: #c8102e; padding: 1vh 1vw; font-size: 5vh }
 """
+WIDE, LETTER, SMALL = 16 / 9, 0.65, 3  # of a screen its width by its height, of a letter too; and the height of the smallest, in hundredths
 OLD = "setInterval(() => {{ if (Date.now() / 1000 > {written} + {most}) document.getElementById('old').style.display = 'block' }}, 1000)"
 
 
@@ -108,15 +111,35 @@ def board_of(table: str, span: int) -> Board:
 # ---- the page
 
 class Page:
-    def __init__(self, board: Board, asked: Namespace) -> None:
+    def __init__(self, board: Board, asked: Namespace, now: float) -> None:
         self.board, self.asked, self.zone = board, asked, zone_of(asked.zone)
         self.last = max((panes[-1].ends for panes in board.panes.values()), default=0)
         self.first = self.last - asked.hours * 3600 * UNITS[asked.unit]
+        self.written, today = int(now), moment(int(now), "s", self.zone)
+        assert today
+        self.today = today
+        self.keys = asked.keys.split(",") if asked.keys else sorted(board.panes)[:MOST_KEYS]
+        self.wide = math.ceil(math.sqrt(len(self.keys) or 1))
+        self.tall = math.ceil(len(self.keys) / self.wide) or 1
+        self.room = (96 - (self.wide - 1)) / self.wide - 2  # of a line in a tile, in hundredths of the screen's width
 
-    def clock(self, time: int, is_dated: bool = False) -> str:
-        """A time as a clock of the zone shows it."""
+    def fitting(self, text: str, size: float) -> str:
+        """A text in letters of a size; where it is longer than a line, its begin and its end."""
+        most = int(self.room * WIDE / (size * LETTER))
+        return text if len(text) <= most else f"{text[:most // 2]}…{text[len(text) - (most - 1) // 2:]}"
+
+    def clock(self, time: int, like: Optional[datetime]) -> str:
+        """A time as a clock of the zone shows it, with its day where that is another one."""
         shown = moment(time, self.asked.unit, self.zone)
-        return str(time) if shown is None else shown.strftime("%d %b %H:%M" if is_dated else "%H:%M")
+        if shown is None:
+            return str(time)
+        day = "" if not like or shown.date() == like.date() else "%d %b " if shown.year == self.today.year else "%d %b %Y "
+        return shown.strftime(f"{day}%H:%M")
+
+    def span(self, begins: int, ends: int) -> str:
+        """Two times; the second with its day where it is a day behind the first, or more."""
+        like = moment(begins, self.asked.unit, self.zone) if ends - begins >= 86400 * UNITS[self.asked.unit] else None
+        return f"{self.clock(begins, self.today)}–{self.clock(ends, like)}"
 
     def bars(self, panes: Sequence[Pane]) -> str:
         """A bar for each window of numbers, from 0 up or down."""
@@ -134,50 +157,47 @@ class Page:
         return f'<svg viewBox="0 0 1000 100" preserveAspectRatio="none">{"".join(rects)}</svg>'
 
     def tile(self, key: str) -> str:
-        panes = self.board.panes.get(key, [])
+        panes, name = self.board.panes.get(key, []), f"<h2>{escape(self.fitting(key, 4))}</h2>"
         if not panes:
-            return f'<section class="behind"><h2>{escape(key)}</h2><p>no window yet</p></section>'
+            return f'<section class="behind">{name}<p>no window yet</p></section>'
         newest = panes[-1]
         first, *others = map(grouped, newest.values)
-        more = ", ".join(f"{escape(name)} {escape(value)}" for name, value in zip(self.board.columns[1:], others))
+        first = self.fitting(first, SMALL)
+        large = f"min({20 / self.tall:.1f}vh, {self.room / (LETTER * max(len(first), 1)):.2f}vw)"
+        kind = KINDS.get(newest.kind, newest.kind)
+        more = ", ".join([kind, *(f"{name} {value}" for name, value in zip(self.board.columns[1:], others))])
         bars = self.bars([pane for pane in panes if pane.ends > self.first])
-        axis = f'<p class="axis"><span>{self.clock(self.first)}</span><span>{self.clock(self.last)}</span></p>' if bars else ""
         is_behind = ' class="behind"' if newest.ends < self.last else ""
-        window = f"{self.clock(newest.begins, bool(is_behind))} to {self.clock(newest.ends)}, {KINDS.get(newest.kind, newest.kind)}"
-        return f"<section{is_behind}><h2><span>{escape(key)}</span> <b>{escape(first)}</b></h2><p>{escape(window)}</p><p>{more}</p>{bars}{axis}</section>"
+        number = f'<h3 style="font-size: {large}">{escape(first)}</h3>'
+        return f'<section{is_behind}>{name}{number}<p>{self.span(newest.begins, newest.ends)}</p><p class="more">{escape(more)}</p>{bars}</section>'
 
     def footer(self) -> str:
         counts = self.board.counts
         words = {what.removeprefix("refused "): now for what, (now, _) in counts.items() if what.startswith("refused ")}
-        refused = f"{sum(words.values()):,} refused"
-        most = sorted(words.items(), key=lambda one: (-one[1], one[0]))
-        told = f": {', '.join(f'{escape(word)} {number:,}' for word, number in most[:4])}" if most else ""
-        parts = [f'<span{" class=bad" * any(words.values())}>{refused}{told}</span>']
-        for what, unknown in (("late", "late ones are told by an end row"), ("in", "")):
+        most = [f"{escape(word)} {number:,}" for word, number in sorted(words.items(), key=lambda one: (-one[1], one[0]))]
+        told = f": {', '.join(most[:MOST_WORDS])}{', …' * (len(most) > MOST_WORDS)}" if most else ""
+        parts = [f'<span{" class=bad" * any(words.values())}>{sum(words.values()):,} refused{told}</span>']
+        for what, name, unknown in (("late", "late", "late ones are told by an end row"), ("in", "rows", "")):
             now, at_end = counts.get(what, (UNKNOWN, UNKNOWN))
-            name = "rows" if what == "in" else what
             known = now if now >= 0 else at_end
-            said = f"{known:,} {name}{'' if now >= 0 else ' at the last end row'}" if known >= 0 else unknown
+            said = f"{known:,} {'row' if known == 1 and what == 'in' else name}{'' if now >= 0 else ' at the last end row'}" if known >= 0 else unknown
             parts.append(f'<span{" class=bad" * (what == "late" and known > 0)}>{said}</span>')
         return "".join(parts)
 
-    def text(self, now: float) -> str:
-        asked, keys = self.asked, sorted(self.board.panes)
-        shown = asked.keys.split(",") if asked.keys else keys[:MOST_KEYS]
-        wide = math.ceil(math.sqrt(len(shown) or 1))
-        left = len(set(keys) - set(shown))
+    def text(self) -> str:
+        asked, left = self.asked, len(set(self.board.panes) - set(self.keys))
+        tiles = "\n".join(map(self.tile, self.keys)) or '<section class="behind"><h2>no window yet</h2></section>'
+        bars = f"<span>bars: {self.span(self.first, self.last)}, each key by its own scale</span>" if "<rect" in tiles else ""
         rest = f"<span>and {left} more key{'s' * (left > 1)}</span>" if left else ""
         every = f'<meta http-equiv="refresh" content="{asked.every}">' if asked.every else ""
-        script = OLD.format(written=int(now), most=PATIENCE * asked.every) if asked.every else ""
-        clock = moment(int(now), "s", self.zone)
-        assert clock
-        title, what = escape(asked.title or os.path.basename(asked.table)), escape(self.board.columns[0])
+        script = OLD.format(written=self.written, most=PATIENCE * asked.every) if asked.every else ""
+        title, what, day = escape(asked.title or os.path.basename(asked.table)), escape(self.board.columns[0]), self.today
         return "\n".join([
             f'<!DOCTYPE html><html lang="en"><head><meta charset="utf-8">{every}<title>{title}</title><style>{STYLE}</style></head><body>',
-            f'<p id="old">Not renewed since {clock:%H:%M:%S}</p>',
-            f'<header><h1>{title}: {what}</h1><span>{clock:%a %d %b %Y} {escape(asked.zone)}</span><span class="now">{clock:%H:%M}</span></header>',
-            f'<main style="grid-template-columns: repeat({wide}, 1fr); --large: {20 / wide:.1f}vh">', *map(self.tile, shown), "</main>",
-            f"<footer>{self.footer()}{rest}</footer><script>{script}</script></body></html>", "",
+            f'<p id="old">Not renewed since {day:%H:%M:%S}</p>',
+            f'<header><h1><span>{title}</span>: {what}</h1><span>{day:%a %d %b %Y} {escape(asked.zone)}</span><span class="now">{day:%H:%M}</span></header>',
+            f'<main style="grid-template-columns: repeat({self.wide}, 1fr); --lines: {4 - self.tall}">', tiles, "</main>",
+            f"<footer>{self.footer()}{rest}{bars}</footer><script>{script}</script></body></html>", "",
         ])
 
 
@@ -189,7 +209,7 @@ def grouped(value: str) -> str:
 
 def write(asked: Namespace) -> None:
     """Writes the page beside its place, and puts it there as a whole."""
-    text = Page(board_of(asked.table, asked.hours * 3600 * UNITS[asked.unit]), asked).text(time.time())
+    text = Page(board_of(asked.table, asked.hours * 3600 * UNITS[asked.unit]), asked, time.time()).text()
     with telling.named(asked.page, BAD_WRITE):
         with open(f"{asked.page}.new", "w", encoding="utf-8") as file:
             file.write(text)
