@@ -7,13 +7,13 @@ from operator import itemgetter
 from typing import Any, Callable, Dict, List, Optional, Sequence, Set, Tuple, Type, Union
 
 from .asking import Column, Query
+from .rows import WHOLE
 from .tables import File, Rows, Server, Work
 from .telling import BAD_QUERY, BAD_WORDS, Ended
 
 NAME = "[A-Za-z_][A-Za-z0-9_]{0,62}"
 KEY = '[^",\r]{1,255}|"(?:[^"]|""){1,255}"'     # of a file, or one that came: any bytes, as a cell of CSV
 WINDOW = ("key", "begins", "ends")
-WHOLE = "-?[0-9]{1,20}"
 EVERY = slice(None)
 CELLS = {"INT": WHOLE, "BOOL": "true|false", "ENUM": NAME}
 RETRACTED = "DELETE FROM panes WHERE key = ?1 AND begins = ?2 AND ends = ?3"

@@ -16,6 +16,7 @@ from collections import Counter
 from typing import Callable, Dict, Iterable, List, Optional, Sequence, Tuple
 
 from .kept import Head
+from .rows import END, REFUSAL
 from .telling import Ended
 
 KEPT = 100  # rows of each word
@@ -23,8 +24,6 @@ UNKNOWN = -1
 SPLIT, WHOLE = ("selected", "left out"), ("admitted",)
 RESTS = ("watermarks", "doubles")  # what is neither admitted nor late nor refused: of rows, and of a log
 WHATS = "in, selected, left out, admitted, late, watermarks, doubles, refused WORD"  # for who looks at the table
-END = r"end,([0-9]{1,20}),([0-9]{1,20}),([0-9]{1,20}),([0-9]{1,20}),[0-9]{1,20}"
-REFUSAL = r"refused,([0-9]{1,20}),([A-Za-z]+)"
 
 
 def made(whole: str) -> List[str]:

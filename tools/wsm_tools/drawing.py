@@ -11,11 +11,10 @@ from __future__ import annotations
 import math
 import re
 import subprocess
-from dataclasses import dataclass, field
 from datetime import datetime, timezone, tzinfo
 from html import escape
 from itertools import accumulate, groupby
-from typing import Any, Dict, Iterator, List, Optional, Sequence, Set, Tuple, Union
+from typing import Any, Dict, Iterator, List, NamedTuple, Optional, Sequence, Set, Tuple, Union
 
 from .asking import Query, query_of, selecting, written
 from .telling import Ended
@@ -43,8 +42,7 @@ Piece = Tuple[str, Dict[str, Union[str, Number]]]  # a text with the attributes 
 
 # ---- what happened
 
-@dataclass
-class Record:
+class Record(NamedTuple):
     row: int
     time: int
     text: str
@@ -53,8 +51,7 @@ class Record:
     is_selected: bool
 
 
-@dataclass
-class Pane:
+class Pane(NamedTuple):
     row: int
     kind: str  # "early", "on_time", "late", "final", or "retract" for one that is withdrawn
     start: int
@@ -62,15 +59,14 @@ class Pane:
     text: str
 
 
-@dataclass
-class History:
-    rows: Dict[int, str] = field(default_factory=dict)  # the rows that are shown, by their numbers
-    records: List[Record] = field(default_factory=list)
-    panes: List[Pane] = field(default_factory=list)
-    withdrawn: List[Pane] = field(default_factory=list)
-    refusals: Dict[int, str] = field(default_factory=dict)  # the words of rows that are no records, by their numbers
-    watermark: List[Corner] = field(default_factory=list)  # its corners
-    marks: Dict[str, List[Corner]] = field(default_factory=dict)  # the corners of each source's mark
+class History(NamedTuple):
+    watermark: List[Corner]  # its corners
+    marks: Dict[str, List[Corner]]  # the corners of each source's mark
+    rows: Dict[int, str]  # the rows that are shown, by their numbers
+    records: List[Record]
+    panes: List[Pane]
+    withdrawn: List[Pane]
+    refusals: Dict[int, str]  # the words of rows that are no records, by their numbers
 
 
 def lines_of(program: str, path: str, rows: Sequence[str]) -> Tuple[List[str], int]:
@@ -112,7 +108,7 @@ def history_of(run: Run, key: str) -> History:
     query, selected = run.query, run.selected()
     names = query.sources or [""]
     marks = dict.fromkeys(names, query.start)
-    history = History(watermark=[(0, query.start)], marks={name: [(0, query.start)] for name in names})
+    history = History([(0, query.start)], {name: [(0, query.start)] for name in names}, {}, [], [], [], {})
     for number, (row, lines) in enumerate(zip(run.rows, run.turns_of(run.path)), 1):
         cells, mark = row.split(","), min(marks.values())
         fate = take_lines(history, number, lines, key)
@@ -171,8 +167,7 @@ def lines_of_rows(history: History, most: int) -> Dict[int, int]:
 
 # ---- how wide it is
 
-@dataclass
-class Frame:
+class Frame(NamedTuple):
     first: int  # the event time at the left edge
     last: int  # and at the right edge
     scale: float  # points for a unit of time
@@ -222,8 +217,7 @@ def frame_of(history: History, is_clock: bool, zone: tzinfo) -> Frame:
     widest = 44 if is_clock else 14 + 6 * len(str(last))
     space = next((space for space in (CLOCK_SPACES if is_clock else SPACES) if space * scale >= widest), last - first)
     frame = Frame(first, last, scale, space, is_clock, zone)
-    frame.first -= (frame.local(first) if is_clock else first) % space
-    return frame
+    return frame._replace(first=first - (frame.local(first) if is_clock else first) % space)
 
 
 # ---- labels

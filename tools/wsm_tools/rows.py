@@ -1,4 +1,4 @@
-"""Lines of rows as they come, read as bytes, and the cells of a row."""
+"""Lines of rows as they come, read as bytes, the cells of a row, and the forms of lines that tell what became of rows."""
 from __future__ import annotations
 
 import re
@@ -10,6 +10,9 @@ LONGEST = 1 << 16  # bytes of a line; no row that `wsm` takes is as long
 MOST = 2**63 - 1
 HEADER = [b"r", b"KEY", b"TIME"]  # how a first row with the names of the fields begins
 MARK_OF_ORDER = b"\xef\xbb\xbf"
+WHOLE = "-?[0-9]{1,20}"
+END = r"end,([0-9]{1,20}),([0-9]{1,20}),([0-9]{1,20}),([0-9]{1,20}),[0-9]{1,20}"
+REFUSAL = r"refused,([0-9]{1,20}),([A-Za-z]+)"
 
 
 def lines_of(descriptor: int, cut: Optional[List[bytes]] = None) -> Iterator[List[bytes]]:

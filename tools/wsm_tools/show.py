@@ -27,8 +27,7 @@ from datetime import tzinfo
 from typing import TYPE_CHECKING, BinaryIO, Callable, Dict, List, Optional, Sequence, TextIO, Union
 
 from . import asking, telling
-from .columns import WHOLE
-from .counts import END, REFUSAL
+from .rows import END, REFUSAL, WHOLE
 from .telling import BAD_WORDS, BAD_WRITE, Ended, printable
 from .times import UNITS, moment, zone_of
 

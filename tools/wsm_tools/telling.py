@@ -13,6 +13,7 @@ if TYPE_CHECKING:
 
 BAD_WORDS, BAD_QUERY, REJECTED, BAD_READ, BAD_WRITE = 2, 3, 4, 6, 7  # statuses, as `wsm` has them
 SHOWN = 80
+WIDTH = 78  # of a usage
 
 
 class Ended(Exception):
@@ -88,11 +89,14 @@ def was_stopped() -> bool:
 
 def parser_of(tool: str, page: str) -> ArgumentParser:
     """A parser of a tool's words. Its page, whose second paragraph is the usage, is its help as it stands."""
-    from argparse import ArgumentParser
+    from argparse import ArgumentParser, HelpFormatter
 
     class Words(ArgumentParser):
         def format_help(self) -> str:
             return page
+
+        def _get_formatter(self) -> HelpFormatter:
+            return HelpFormatter(self.prog, width=WIDTH)  # without one it takes three packers of files in, to ask the terminal
 
     return Words(prog=tool, usage=page.split("\n\n")[1].removeprefix("usage: "))
 
