@@ -3,7 +3,7 @@ import subprocess
 import time
 from pathlib import Path
 
-PATIENCE = 30
+PATIENCE = 120
 
 
 def log_of(drawn, number):
@@ -52,6 +52,8 @@ def name_of(process):
 
 
 def wait(is_so, patience=PATIENCE):
-    end = time.monotonic() + patience
+    """Waits until this is so, and asks less often the longer it takes."""
+    end, pause = time.monotonic() + patience, 0.005
     while not is_so() and time.monotonic() < end:
-        time.sleep(0.005)
+        time.sleep(pause)
+        pause = min(1.1 * pause, 0.1)

@@ -1,6 +1,7 @@
 """Any number of keys over a log that grows: what trials/live tries of them."""
 import contextlib
 import json
+import re
 import signal
 import subprocess
 import sys
@@ -54,11 +55,14 @@ def write_case(folder: Path, mode: str) -> None:
     (folder / "names").write_text("".join(f"{name}\n" for name in NAMES[:3]))
 
 
+def run_over(case: KeyedCase, text: str) -> subprocess.CompletedProcess[bytes]:
+    words = [case.program, "run", "--from", "source.toml", *LIVE_WORDS, "query.wsm"]
+    return subprocess.run(words, cwd=case.folder, input=text.encode(), capture_output=True)
+
+
 def whole(case: KeyedCase) -> list[str]:
     """The lines of a run over all whole lines that came, but for its end row."""
-    text = case.text[:case.text.rfind("\n") + 1]
-    ran = subprocess.run(
-        [case.program, "run", "--from", "source.toml", *LIVE_WORDS, "query.wsm"], cwd=case.folder, input=text.encode(), capture_output=True)
+    ran = run_over(case, case.text[:case.text.rfind("\n") + 1])
     differs("the status of a run in one piece", ran.returncode, 0)
     return ran.stdout.decode().splitlines()[:-1]
 
@@ -107,6 +111,23 @@ def try_others(case: KeyedCase) -> None:
     (case.folder / "names").write_text("".join(f"{name}\n" for name in NAMES[:3]))
 
 
+def try_health(case: KeyedCase) -> None:
+    """`health` has the number of the keys, of those that came, which a run tells at its end, and of the engines, one for a thousand."""
+    health, told = case.folder / "dir/health", run_over(case, case.text).stderr.decode().splitlines()[-1:]
+    new = int("".join(told).removeprefix("wsm: new keys: "))
+    want = {"keys": 3 + new, "new_keys": new, "parts": -(-(3 + new) // 1000)}
+
+    def counted() -> dict[str, int]:
+        text = health.read_text() if health.exists() else ""
+        return {name: int(number) for name, number in re.findall(r"^wsm_live_(keys|new_keys|parts) ([0-9]+)$", text, re.M)}
+
+    live = case.begin(out=subprocess.DEVNULL)
+    wait(lambda: counted() == want, PATIENCE)
+    live.kill()
+    live.wait()
+    differs("the keys that health has", counted(), want)
+
+
 def try_source(case: KeyedCase) -> None:
     """A source that names the file of the names, which stands beside it; a file that the words name goes first."""
     for folder, keys, words in (("of", "names", []), ("of", "none", ["--keys", "of/names"])):
@@ -115,9 +136,7 @@ def try_source(case: KeyedCase) -> None:
         (case.folder / folder / "source.toml").write_text(f'keys = "{keys}"\n{SOURCE}')
         run = [case.program, "run", "--from", f"{folder}/source.toml", *words, "--new-keys", "query.wsm", "log"]
         ran = subprocess.run(run, cwd=case.folder, capture_output=True)
-        log = (case.folder / "log").read_bytes()
-        want = subprocess.run(
-            [case.program, "run", "--from", "source.toml", *LIVE_WORDS, "query.wsm"], cwd=case.folder, input=log, capture_output=True)
+        want = run_over(case, (case.folder / "log").read_text())
         differs(f"what is written by the names of a source, {words}", (ran.returncode, ran.stdout), (0, want.stdout))
 
 

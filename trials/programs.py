@@ -1,7 +1,12 @@
 """The program and the tools that a trial runs, the words that it is called by, and what a run writes."""
 import argparse
+import contextlib
+import importlib.machinery
+import importlib.util
 import os
 import shutil
+import signal
+import sqlite3
 import subprocess
 import sys
 from pathlib import Path
@@ -27,15 +32,58 @@ def laid_out(folder, program=None):
     return folder
 
 
+class Group:
+    """A process and those that it starts, in a group of their own, which ends with what is done meanwhile."""
+
+    def __init__(self, words, folder=None, end=signal.SIGKILL, **streams):
+        streams = {"stdin": subprocess.DEVNULL, "stdout": subprocess.DEVNULL, "stderr": subprocess.DEVNULL, **streams}
+        self.end, self.process = end, subprocess.Popen(words, cwd=folder, start_new_session=True, **streams)
+
+    def __enter__(self):
+        return self
+
+    def __exit__(self, *_):
+        with contextlib.suppress(ProcessLookupError):
+            os.killpg(self.process.pid, self.end)
+        self.process.wait()
+
+
+def given_program(page):
+    """The program that a trial's first word which is no flag names, else the one at the top; --help has the trial's page printed."""
+    if {"-h", "--help"} & {*sys.argv[1:]}:
+        sys.exit(print(page))
+    words = [word for word in sys.argv[1:] if not word.startswith("--")]
+    return Path(words[0] if words else TOP / "wsm").absolute()
+
+
+def answers(table, question):
+    """What a table of SQLite answers; nothing where it isn't there yet."""
+    try:
+        with contextlib.closing(sqlite3.connect(f"file:{table}?mode=ro", uri=True, timeout=20)) as base:
+            return base.execute(question).fetchall()
+    except sqlite3.Error:
+        return []
+
+
+def taken_in(trial):
+    """Another trial, of which this one takes parts."""
+    loader = importlib.machinery.SourceFileLoader(trial, str(TOP / "trials" / trial))
+    module = importlib.util.module_from_spec(importlib.util.spec_from_loader(trial, loader))
+    loader.exec_module(module)
+    return module
+
+
 def parser_of(trial, page):
-    """A parser of the words of a trial that draws what it tries; its help is the page at the head of the trial's file."""
+    """A parser of a trial's words, with SEED and PROGRAM where its usage has them; its help is the page at the head of its file."""
     first, usage, rest = page.split("\n\n", 2)
     parser = argparse.ArgumentParser(
         prog=trial, usage=usage.removeprefix("usage: "), description=f"{first}\n\n{rest}",
         formatter_class=argparse.RawDescriptionHelpFormatter,
     )
-    parser.add_argument("--seed", type=int, default=1)
-    parser.add_argument("program", nargs="?", type=Path, default=TOP / "wsm")
+    if "--seed" in usage:
+        parser.add_argument("--seed", type=int, default=1)
+    if "PROGRAM" in usage:
+        parser.add_argument("program", nargs="?", type=Path, default=TOP / "wsm")
     return parser
 
 

@@ -18,10 +18,12 @@ import json
 import re
 import sys
 import tomllib
-from dataclasses import dataclass, field
+from dataclasses import dataclass
 from datetime import datetime, timedelta, timezone
 from pathlib import Path
 from zoneinfo import ZoneInfo
+
+from query_text import Field
 
 LATEST = 10**16
 # The instants that there are: those of a clock up to 26 hours off that shows a year from -9999 to 9999.
@@ -276,15 +278,6 @@ def csv_cells(text, separator):
 
 
 # ---- sources
-
-@dataclass
-class Field:
-    name: str
-    type: str
-    low: int = 0
-    high: int = 0
-    names: list = field(default_factory=list)
-
 
 @dataclass
 class Record:

@@ -237,8 +237,8 @@ class Labels:
         x, y = place
         outside = max(0, 4 - x) + max(0, x + width - self.width + 4)
         return outside * height + sum(
-            max(0, min(x + width, right) - max(x, left)) * max(0, min(y + height, bottom) - max(y, top))
-            for left, top, right, bottom in self.taken
+            (min(x + width, right) - max(x, left)) * (min(y + height, bottom) - max(y, top))
+            for left, top, right, bottom in self.taken if left < x + width and x < right and top < y + height and y < bottom
         )
 
     def put(self, places: Sequence[Tuple[float, float]], width: float, height: float) -> Tuple[float, float]:
