@@ -10,9 +10,9 @@ and renewed as a whole. With --every it is written anew each so many SECONDS, th
 that wasn't renewed for three times as long says so in red.
 
 The first column stands large, the others below; bars are its windows that ended within HOURS (6 where it is left out) of
-the newest one, each key by its own scale. The 9 first keys are shown, or those of --keys; of the others their number. Times
-are of ZONE, UTC where it is left out, with their day unless it is today, and numbers of UNIT, `s`, `ms` or `us`, since 1970.
-Rows that were late are known behind an end row alone.
+the newest one, each key by its own scale. The 9 first keys are shown, or those of --keys, 12 at most; of the others their
+number. Times are of ZONE, UTC where it is left out, with their day unless it is today, and numbers of UNIT, `s`, `ms` or
+`us`, since 1970. Rows that were late are known behind an end row alone.
 
 It ends with status 2 by its words, 6 where TABLE can't be read or has no panes, 7 where PAGE can't be written, and where
 INT or TERM ends it, with 128 and their number.
@@ -34,7 +34,7 @@ if TYPE_CHECKING:
     from argparse import Namespace
     from datetime import datetime
 
-MOST_KEYS, MOST_WORDS = 9, 4
+MOST_KEYS, MOST_NAMED, MOST_WORDS = 9, 12, 4
 UNKNOWN = -1  # of what no end row told
 KINDS = {"early": "so far", "on_time": "complete", "late": "corrected", "final": "final"}
 PATIENCE = 3  # times that a page may not be renewed
@@ -143,7 +143,7 @@ class Page:
 
     def bars(self, panes: Sequence[Pane]) -> str:
         """A bar for each window of numbers, from 0 up or down."""
-        if not all(pane.values[0].lstrip("-").isdigit() for pane in panes):
+        if not all(is_number(pane.values[0]) for pane in panes):
             return ""
         numbers = [int(pane.values[0]) for pane in panes]
         low, high, width = min(0, *numbers), max(0, *numbers), self.last - self.first
@@ -162,7 +162,7 @@ class Page:
             return f'<section class="behind">{name}<p>no window yet</p></section>'
         newest = panes[-1]
         first, *others = map(grouped, newest.values)
-        first = self.fitting(first, SMALL)
+        first = first if is_number(newest.values[0]) else self.fitting(first, SMALL)
         large = f"min({20 / self.tall:.1f}vh, {self.room / (LETTER * max(len(first), 1)):.2f}vw)"
         kind = KINDS.get(newest.kind, newest.kind)
         more = ", ".join([kind, *(f"{name} {value}" for name, value in zip(self.board.columns[1:], others))])
@@ -201,8 +201,12 @@ class Page:
         ])
 
 
+def is_number(value: str) -> bool:
+    return value.lstrip("-").isdigit()
+
+
 def grouped(value: str) -> str:
-    return f"{int(value):,}" if value.lstrip("-").isdigit() else value
+    return f"{int(value):,}" if is_number(value) else value
 
 
 # ---- the command
@@ -229,6 +233,8 @@ def words() -> Namespace:
     asked = parser.parse_args()
     if not 0 < asked.hours <= 10**4:
         parser.error("HOURS are 1 to 10000")
+    if asked.keys and asked.keys.count(",") >= MOST_NAMED:
+        parser.error(f"KEYS are {MOST_NAMED} at most")
     return asked
 
 
