@@ -1,12 +1,13 @@
 -- What the parts of a turn come to together.
 use Rattle.std.proofs.Common.{◌≡◌, ◌≤◌, ◌∙◌, ◌-◌, ◌+◌, ◌++◌, ℕ, List, [], Result, Ok, Err, IfOk, Some, ap, arith, drop, length, map, subst, sym, take}
 use Rattle.wsm_follow.specs.Ended.{ended_lines, kept_lines}
-use Rattle.wsm_follow.specs.Follower.{Begins, Goes, GoesTo, MovesOn, Searches, Takes}
+use Rattle.wsm_follow.specs.Follower.{Begins, Goes, GoesTo, MovesOn, Searches, Takes, at}
 use Rattle.wsm_follow.specs.Follows.{GoesOn, Stand, stand}
 use Rattle.wsm_follow.specs.Logs.{AreInTurn, IsAmong, Log, bytes_in, lines_behind, next_in}
 use Rattle.wsm_follow.specs.Names.{Listing}
 use Rattle.wsm_follow.specs.Reads.{Reads}
 use Rattle.wsm_follow.specs.declared.file.FileId.{FileId}
+use Rattle.wsm_follow.specs.declared.position.Position.{Position}
 use Rattle.wsm_follow.specs.declared.reading.Found.TheVariants as found
 use Rattle.wsm_follow.specs.declared.follower.Turn.{Turn}
 use Rattle.wsm_follow.specs.declared.follower.Turn.TheVariants.{Elsewhere, Lines, Lost, Next, Nothing, Packed}
@@ -61,9 +62,14 @@ begins-move known bytes end left from to files Elsewhere over order is begins = 
 begins-move known bytes end left from to files (Packed name) over order is begins = begins
 begins-move known bytes end left from to files (Lost lost) over order is begins = absurd begins
 
--- where the bytes were looked for elsewhere no lines are told
-pub searches-lines : {E : Type 0} (from to : Stand) (r : Result Turn E) → IfOk r (λ (turn : Turn). Searches from to turn) → r ≡ Ok Lines → ⊥
-searches-lines {E} from to r searched is = subst (λ (x : Result Turn E). IfOk x (λ (turn : Turn). Searches from to turn)) is searched
+-- a turn goes on where it says
+pub went-goes : (longest : ℕ) (known : List Log) (from : Stand) (text : List ℕ) (went turn : Turn) (to p : Position) → turn ≡ went → p ≡ to → Goes longest known from text (at to) went → Goes longest known from text (at p) turn
+went-goes longest known from text went turn to p told stands goes =
+    subst (λ (t : Turn). Goes longest known from text (at p) t) (sym told) (subst (λ (q : Position). Goes longest known from text (at q) went) (sym stands) goes)
+
+-- where no lines were told none are answered
+pub no-lines : {E : Type 0} (went : Turn) (r : Result Turn E) → IfOk r (λ (turn : Turn). turn ≡ went) → (went ≡ Lines → ⊥) → r ≡ Ok Lines → ⊥
+no-lines {E} went r told none is = none (sym (subst (λ (x : Result Turn E). IfOk x (λ (turn : Turn). turn ≡ went)) is told))
 
 -- lines that were read are the next ones
 pub read-goes : (most start end : ℕ) (known : List Log) (file : FileId) (bytes text : List ℕ) → 2 ≤ most → bytes_in file known ≡ Some bytes → Reads most bytes start text (found.Lines end)

@@ -1,5 +1,5 @@
 -- What a turn of a follower comes to.
-use Rattle.std.specs.Prelude.{◌≡◌, ◌≤◌, ℕ, ◌-◌, List, [], Option, Some, option_map, true, length, ⊤}
+use Rattle.std.specs.Prelude.{◌≡◌, ◌≤◌, ℕ, ◌-◌, List, [], Option, Some, option_map, unwrap_or, true, length, ⊤}
 use Rattle.wsm_follow.specs.Follows.{GoesOn, Stand, stand}
 use Rattle.wsm_follow.specs.Logs.{AreInTurn, IsAmong, Log, are_distinct, files_of, next_in}
 use Rattle.wsm_follow.specs.Names.{Listing, first_readable}
@@ -7,12 +7,23 @@ use Rattle.wsm_follow.specs.Position.{head_sum, tail_sum}
 use Rattle.wsm_follow.specs.Reads.{most_of, text_of}
 use Rattle.wsm_follow.specs.declared.file.FileId.{FileId}
 use Rattle.wsm_follow.specs.declared.position.Position.{Position}
+use Rattle.wsm_follow.specs.declared.follower.Followed.{Followed}
 use Rattle.wsm_follow.specs.declared.follower.Follower.{Follower}
+use Rattle.wsm_follow.specs.declared.follower.Front.{Front}
+use Rattle.wsm_follow.specs.declared.follower.Front.TheVariants as front
+use Rattle.wsm_follow.specs.declared.follower.Went.{Went}
 use Rattle.wsm_follow.specs.declared.follower.Turn.{Turn}
 use Rattle.wsm_follow.specs.declared.follower.Turn.TheVariants.{Elsewhere, Lines, Lost, Next, Nothing, Packed}
 
-abbrev pub at : Follower → Stand
-at f = stand f.position.file f.position.offset
+abbrev pub at : Position → Stand
+at p = stand p.file p.offset
+
+abbrev pub position_of : Follower → Position
+position_of f = f.followed.position
+
+-- where a turn goes on
+abbrev pub to_of : Followed → Went → Stand
+to_of f went = at (unwrap_or went.to f.position)
 
 abbrev pub longest_of : Follower → ℕ
 longest_of f = most_of f.reading - 2
@@ -39,6 +50,11 @@ pub record IsFront (known : List Log) (files : List Listing) (p : Position) : Ty
   pub in_turn : AreInTurn known files
   pub first : option_map (λ f. f.file) (first_readable files) ≡ Some p.file
   pub begins : p.offset ≡ 0
+
+-- a file's front is its beginning
+abbrev pub IsFrontOf : FileId → Front → Type 0
+IsFrontOf file (front.At p) = at p ≡ stand file 0
+IsFrontOf file (front.Packed name) = ⊤
 
 -- lines up to an offset were taken, or the file was cut meanwhile
 abbrev pub Takes : Stand → Stand → ℕ → Turn → Type 0

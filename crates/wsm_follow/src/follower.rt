@@ -1,7 +1,7 @@
 //! The whole lines of a log, in turns.
 
-ghost use Rattle.std.specs.Prelude.{◌≡◌, List, IfOk, IfSome, Some, map, option_map};
-ghost use Rattle.wsm_follow.specs.Follower.{IsFront};
+ghost use Rattle.std.specs.Prelude.{◌≡◌, List, IfOk, IfSome, None, Some, map, option_map};
+ghost use Rattle.wsm_follow.specs.Follower.{IsFront, IsFrontOf};
 ghost use Rattle.wsm_follow.specs.Listed.{listing};
 ghost use Rattle.wsm_follow.specs.Logs.{Log, next_in};
 ghost use Rattle.wsm_follow.specs.Names.{Listing};
@@ -49,15 +49,35 @@ pub struct Lost {
     pub there: u64,
 }
 
+// A log, and how far it was read.
+#[derive(Drop)]
+struct Followed {
+    log: Name,
+    position: Position,
+    alloc: Global,
+}
+
+// What a turn came to, and where it goes on, if it doesn't go on where it was.
+#[derive(Drop)]
+struct Went {
+    turn: Turn,
+    to: Option<Position>,
+}
+
+// The front of a file: its position, or the name of one that is packed.
+#[derive(Drop)]
+enum Front {
+    At(Position),
+    Packed(Vec<u8>),
+}
+
 /// Follows a log: gives its whole lines in turns, over rotations.
 #[derive(Drop)]
 pub struct Follower {
-    log: Name,
-    position: Position,
+    followed: Followed,
     reading: Reading,
     // What is read for sums.
     room: Vec<u8>,
-    alloc: Global,
 }
 
 // The file that stands behind another one.
@@ -156,12 +176,27 @@ fn front_in(alloc: Global, file: &Listed) -> Result<Position, FolderFault>
     }
 }
 
+// The front of a file of the log.
+fn front_of_listed(alloc: Global, file: &Listed) -> Result<Front, FolderFault>
+    ensures { IfOk result (λ front. IsFrontOf file.now.file front) }
+{
+    if file.is_packed {
+        return Ok(Front::Packed(file.name.clone()?));
+    }
+    Ok(Front::At(front_in(alloc, file)?))
+}
+
+// A turn goes on where it was.
+fn staying(turn: Turn) -> Went
+    ensures { result ≡ record { turn = turn; to = None } }
+{
+    Went { turn, to: None }
+}
+
 impl Follower {
-    ghost use Rattle.std.specs.Prelude.{◌≡◌, ℕ, List, Ok, Some, IfOk, MatchOption, OnErr, map};
-    ghost use Rattle.wsm_follow.specs.Follows.{stand};
-    ghost use Rattle.wsm_follow.specs.Follower.{Begins, Goes, HasSums, MovesOn, Searches, Takes, at, lines_of, longest_of};
-    ghost use Rattle.wsm_follow.specs.Logs.{AreInTurn, IsAmong, Log, bytes_in, bytes_of, next_in};
-    ghost use Rattle.wsm_follow.specs.Listed.{listing};
+    ghost use Rattle.std.specs.Prelude.{◌≡◌, ℕ, List, Ok, Some, IfOk, OnErr};
+    ghost use Rattle.wsm_follow.specs.Follower.{Goes, HasSums, at, lines_of, longest_of, position_of};
+    ghost use Rattle.wsm_follow.specs.Logs.{IsAmong, Log, bytes_of};
     ghost use Rattle.wsm_follow.specs.Seen.{place_in};
 
     /// Follows the log of this name from a position on. Of a line at most `longest` bytes are wanted; two
@@ -176,23 +211,25 @@ impl Follower {
         position: Position,
         longest: usize,
     ) -> Result<Follower, AllocError>
-        ensures at { IfOk result (λ f. place_in f.position ≡ place_in position) }
+        ensures at { IfOk result (λ f. place_in (position_of f) ≡ place_in position) }
         ensures longest { IfOk result (λ f. longest_of f ≡ longest) }
     {
         Ok(Follower {
-            log,
-            position,
+            followed: Followed {
+                log,
+                position,
+                alloc,
+            },
             reading: Reading::new(alloc, longest)?,
             room: vec![in alloc; 0; SUMMED]?,
-            alloc,
         })
     }
 
     /// How far the log was read.
     pub fn position(&self) -> &Position
-        ensures { result.now ≡ self.now.position }
+        ensures { result.now ≡ position_of self.now }
     {
-        &self.position
+        &self.followed.position
     }
 
     /// The lines that the last turn gave, each with its line feed, where it was [`Turn::Lines`].
@@ -209,61 +246,91 @@ impl Follower {
     /// A call of the folder failed, or memory was refused. The position is as it was.
     pub fn turn<F: Folder>(&mut self, folder: &mut F) -> Result<Turn, FolderFault>
         ensures logs { F.logs folder.new ≡ F.logs folder.old }
-        ensures goes { (known : List Log) → F.logs folder.old ≡ Some known → IsAmong self.old.position.file known →
-            IfOk result (λ turn. Goes (longest_of self.old) known (at self.old) (lines_of self.new) (at self.new) turn) }
-        ensures sums { (known : List ℕ) → bytes_of self.old.position.file (F.logs folder.old) ≡ Some known → result ≡ Ok Turn.Lines →
-            HasSums known self.new.position }
-        ensures synced { result ≡ Ok Turn.Lines → F.synced folder.new ≡ Some (self.new.position.file, self.new.position.offset) }
-        ensures stays { OnErr result (self.new.position ≡ self.old.position) }
+        ensures goes { (known : List Log) → F.logs folder.old ≡ Some known → IsAmong (position_of self.old).file known →
+            IfOk result (λ turn. Goes (longest_of self.old) known (at (position_of self.old)) (lines_of self.new) (at (position_of self.new)) turn) }
+        ensures sums { (known : List ℕ) → bytes_of (position_of self.old).file (F.logs folder.old) ≡ Some known → result ≡ Ok Turn.Lines →
+            HasSums known (position_of self.new) }
+        ensures synced { result ≡ Ok Turn.Lines → F.synced folder.new ≡ Some ((position_of self.new).file, (position_of self.new).offset) }
+        ensures stays { OnErr result (position_of self.new ≡ position_of self.old) }
         ensures longest { longest_of self.new ≡ longest_of self.old }
     {
-        if !self.is_there(folder)? {
-            return self.search(folder);
+        if !self.followed.is_there(folder, &mut self.room)? {
+            let files = self.followed.judged(folder, &mut self.room)?;
+            let went = self.followed.search(&files)?;
+            return Ok(self.followed.go(went));
         }
-        let (file, offset) = (self.position.file, self.position.offset);
+        let (file, offset) = (self.followed.position.file, self.followed.position.offset);
         match self.reading.read(folder, file, offset)? {
-            Found::Lines(end) => self.take_lines(folder, end),
-            Found::Part(end) => self.move_on(folder, end),
+            Found::Lines(end) => self.followed.take_lines(folder, &mut self.room, end),
+            Found::Part(end) => {
+                let went = self.followed.move_on(folder, end)?;
+                Ok(self.followed.go(went))
+            }
         }
+    }
+}
+
+impl Followed {
+    ghost use Rattle.std.specs.Prelude.{◌≡◌, ℕ, List, Ok, Some, IfOk, OnErr, map, unwrap_or};
+    ghost use Rattle.wsm_follow.specs.Follower.{Begins, HasSums, MovesOn, Searches, Takes, at, to_of};
+    ghost use Rattle.wsm_follow.specs.Logs.{AreInTurn, Log, bytes_in, bytes_of, next_in};
+    ghost use Rattle.wsm_follow.specs.Listed.{listing};
+
+    // Goes on where a turn says.
+    fn go(&mut self, went: Went) -> Turn
+        ensures turn { result ≡ went.turn }
+        ensures position { self.new.position ≡ unwrap_or went.to self.old.position }
+    {
+        let Went { turn, to } = went;
+        if let Some(position) = to {
+            self.position = position;
+        }
+        turn
     }
 
     // Whether the position's file has the bytes that were read.
-    fn is_there<F: Folder>(&mut self, folder: &mut F) -> Result<bool, FolderFault>
-        ensures logs { F.logs folder.new ≡ F.logs folder.old }
-        ensures position { self.new.position ≡ self.old.position }
-        ensures reading { self.new.reading ≡ self.old.reading }
+    fn is_there<F: Folder>(&self, folder: &mut F, room: &mut [u8]) -> Result<bool, FolderFault>
+        ensures { F.logs folder.new ≡ F.logs folder.old }
     {
         match folder.size(self.position.file)? {
-            Some(size) if self.position.offset <= size => self.fits(folder, self.position.file),
+            Some(size) if self.position.offset <= size => {
+                self.fits(folder, room, self.position.file)
+            }
             _ => Ok(false),
         }
     }
 
     // Whether a file has the bytes that were read, by their sums.
-    fn fits<F: Folder>(&mut self, folder: &mut F, file: FileId) -> Result<bool, FolderFault>
-        ensures logs { F.logs folder.new ≡ F.logs folder.old }
-        ensures position { self.new.position ≡ self.old.position }
-        ensures reading { self.new.reading ≡ self.old.reading }
+    fn fits<F: Folder>(
+        &self,
+        folder: &mut F,
+        room: &mut [u8],
+        file: FileId,
+    ) -> Result<bool, FolderFault>
+        ensures { F.logs folder.new ≡ F.logs folder.old }
     {
-        let (offset, head, tail) = (self.position.offset, self.position.head, self.position.tail);
-        match sums_at(folder, file, offset, self.room.as_mut_slice())? {
-            Some(sums) => Ok(sums.head == head && sums.tail == tail),
+        match sums_at(folder, file, self.position.offset, room)? {
+            Some(sums) => Ok(sums.head == self.position.head && sums.tail == self.position.tail),
             None => Ok(false),
         }
     }
 
     // The lines that were read are on the disk, and the position behind them.
-    fn take_lines<F: Folder>(&mut self, folder: &mut F, end: u64) -> Result<Turn, FolderFault>
+    fn take_lines<F: Folder>(
+        &mut self,
+        folder: &mut F,
+        room: &mut [u8],
+        end: u64,
+    ) -> Result<Turn, FolderFault>
         ensures logs { F.logs folder.new ≡ F.logs folder.old }
-        ensures takes { IfOk result (λ turn. Takes (at self.old) (at self.new) end turn) }
+        ensures takes { IfOk result (λ turn. Takes (at self.old.position) (at self.new.position) end turn) }
         ensures sums { (known : List ℕ) → bytes_of self.old.position.file (F.logs folder.old) ≡ Some known → result ≡ Ok Turn.Lines →
             HasSums known self.new.position }
         ensures synced { result ≡ Ok Turn.Lines → F.synced folder.new ≡ Some (self.new.position.file, self.new.position.offset) }
         ensures stays { OnErr result (self.new.position ≡ self.old.position) }
-        ensures reading { self.new.reading ≡ self.old.reading }
     {
         let file = self.position.file;
-        let Some(sums) = sums_at(folder, file, end, self.room.as_mut_slice())? else {
+        let Some(sums) = sums_at(folder, file, end, room)? else {
             return Ok(Turn::Nothing);
         };
         folder.sync(file, end)?;
@@ -274,61 +341,50 @@ impl Follower {
     }
 
     // The file has no line more up to its end now: goes on to the next log, where it has ended.
-    fn move_on<F: Folder>(&mut self, folder: &mut F, end: u64) -> Result<Turn, FolderFault>
+    fn move_on<F: Folder>(&self, folder: &mut F, end: u64) -> Result<Went, FolderFault>
         ensures logs { F.logs folder.new ≡ F.logs folder.old }
-        ensures goes { (known : List Log) (bytes : List ℕ) → F.logs folder.old ≡ Some known → bytes_in self.old.position.file known ≡ Some bytes →
-            IfOk result (λ turn. MovesOn known bytes end (at self.old) (at self.new) turn) }
-        ensures moves { result ≡ Ok Turn.Lines → ⊥ }
-        ensures stays { OnErr result (self.new.position ≡ self.old.position) }
-        ensures reading { self.new.reading ≡ self.old.reading }
+        ensures goes { (known : List Log) (bytes : List ℕ) → F.logs folder.old ≡ Some known → bytes_in self.now.position.file known ≡ Some bytes →
+            IfOk result (λ went. MovesOn known bytes end (at self.now.position) (to_of self.now went) went.turn) }
+        ensures moves { IfOk result (λ went. went.turn ≡ Turn.Lines → ⊥) }
     {
         let (file, offset) = (self.position.file, self.position.offset);
         let Some(ended) = folder.ended(file)? else {
-            return Ok(Turn::Nothing);
+            return Ok(staying(Turn::Nothing));
         };
         if end < ended.size {
-            return Ok(Turn::Nothing);
+            return Ok(staying(Turn::Nothing));
         }
         let files = self.listed(folder)?;
         self.begin_next(files.as_slice(), ended.changed, end.saturating_sub(offset))
     }
 
-    // The position is at the beginning of the log that came next, if that is there.
-    fn begin_next(&mut self, files: &[Listed], changed: u64, left: u64) -> Result<Turn, FolderFault>
-        ensures begins { IfOk result (λ turn. Begins (next_in self.old.position.file (map (λ f. f.file) (map listing files.now))) left (at self.old)
-            (at self.new) turn) }
-        ensures stays { OnErr result (self.new.position ≡ self.old.position) }
-        ensures reading { self.new.reading ≡ self.old.reading }
+    // The turn goes on at the beginning of the log that came next, if that is there.
+    fn begin_next(&self, files: &[Listed], changed: u64, left: u64) -> Result<Went, FolderFault>
+        ensures { IfOk result (λ went. Begins (next_in self.now.position.file (map (λ f. f.file) (map listing files.now))) left (at self.now.position)
+            (to_of self.now went) went.turn) }
     {
         if let Some(next) = next_of(self.position.file, files) {
-            return Ok(match self.begin(next)? {
-                Some(name) => Turn::Packed(name),
-                None => Turn::Next(left),
+            return Ok(match front_of_listed(self.alloc, next)? {
+                Front::At(position) => Went {
+                    turn: Turn::Next(left),
+                    to: Some(position),
+                },
+                Front::Packed(name) => staying(Turn::Packed(name)),
             });
         }
         if is_listed(self.position.file, files) {
-            return Ok(Turn::Nothing);
+            return Ok(staying(Turn::Nothing));
         }
-        match changed_since(changed, files) {
-            Some(next) => Ok(match self.begin(next)? {
-                Some(name) => Turn::Packed(name),
-                None => Turn::Elsewhere,
-            }),
-            None => Ok(Turn::Nothing),
-        }
-    }
-
-    // The position is at the beginning of a file; of one that is packed the name is answered.
-    fn begin(&mut self, file: &Listed) -> Result<Option<Vec<u8>>, FolderFault>
-        ensures begins { IfOk result (λ o. MatchOption o (at self.new ≡ stand file.now.file 0) (λ _. self.new.position ≡ self.old.position)) }
-        ensures stays { OnErr result (self.new.position ≡ self.old.position) }
-        ensures reading { self.new.reading ≡ self.old.reading }
-    {
-        if file.is_packed {
-            return Ok(Some(file.name.clone()?));
-        }
-        self.position = front_in(self.alloc, file)?;
-        Ok(None)
+        let Some(next) = changed_since(changed, files) else {
+            return Ok(staying(Turn::Nothing));
+        };
+        Ok(match front_of_listed(self.alloc, next)? {
+            Front::At(position) => Went {
+                turn: Turn::Elsewhere,
+                to: Some(position),
+            },
+            Front::Packed(name) => staying(Turn::Packed(name)),
+        })
     }
 
     // The files of the log, the oldest first.
@@ -341,51 +397,54 @@ impl Follower {
     }
 
     // Looks for the bytes that were read in the files of the log.
-    fn search<F: Folder>(&mut self, folder: &mut F) -> Result<Turn, FolderFault>
-        ensures logs { F.logs folder.new ≡ F.logs folder.old }
-        ensures searches { IfOk result (λ turn. Searches (at self.old) (at self.new) turn) }
-        ensures stays { OnErr result (self.new.position ≡ self.old.position) }
-        ensures reading { self.new.reading ≡ self.old.reading }
+    fn search(&self, files: &[Candidate]) -> Result<Went, FolderFault>
+        ensures { IfOk result (λ went. Searches (at self.now.position) (to_of self.now went) went.turn) }
     {
-        let files = self.judged(folder)?;
-        match chosen(&self.position, files.as_slice()) {
-            Choice::Own => Ok(Turn::Nothing),
+        match chosen(&self.position, files) {
+            Choice::Own => Ok(staying(Turn::Nothing)),
             Choice::Copy(i) => self.go_on_in(&files[i].listed),
-            Choice::Packed(i) => Ok(Turn::Packed(files[i].listed.name.clone()?)),
-            Choice::Lost(loss) => Ok(Turn::Lost(Lost {
+            Choice::Packed(i) => Ok(staying(Turn::Packed(files[i].listed.name.clone()?))),
+            Choice::Lost(loss) => Ok(staying(Turn::Lost(Lost {
                 loss,
                 read: self.position.offset,
-                there: bytes_there(files.as_slice()),
-            })),
+                there: bytes_there(files),
+            }))),
         }
     }
 
     // The log goes on in a copy.
-    fn go_on_in(&mut self, file: &Listed) -> Result<Turn, FolderFault>
-        ensures elsewhere { IfOk result (λ turn. turn ≡ Turn.Elsewhere) }
-        ensures stays { OnErr result (self.new.position ≡ self.old.position) }
-        ensures reading { self.new.reading ≡ self.old.reading }
+    fn go_on_in(&self, file: &Listed) -> Result<Went, FolderFault>
+        ensures { IfOk result (λ went. went.turn ≡ Turn.Elsewhere) }
     {
         let Some(name) = Name::new(self.alloc, file.name.as_slice())? else {
             return Err(FolderFault::Failed);
         };
-        self.position.file = file.file;
-        self.position.name = name;
-        Ok(Turn::Elsewhere)
+        Ok(Went {
+            turn: Turn::Elsewhere,
+            to: Some(Position {
+                file: file.file,
+                offset: self.position.offset,
+                head: self.position.head,
+                tail: self.position.tail,
+                name,
+            }),
+        })
     }
 
     // The files of the log, the oldest first, and which of them have the bytes that were read.
-    fn judged<F: Folder>(&mut self, folder: &mut F) -> Result<Vec<Candidate>, FolderFault>
-        ensures logs { F.logs folder.new ≡ F.logs folder.old }
-        ensures position { self.new.position ≡ self.old.position }
-        ensures reading { self.new.reading ≡ self.old.reading }
+    fn judged<F: Folder>(
+        &self,
+        folder: &mut F,
+        room: &mut [u8],
+    ) -> Result<Vec<Candidate>, FolderFault>
+        ensures { F.logs folder.new ≡ F.logs folder.old }
     {
         let mut judged = Vec::new(self.alloc);
         let mut files = self.listed(folder)?;
         'each: while !files.is_empty() {
             let listed = files.remove(0);
             let may_fit = !listed.is_packed && self.position.offset <= listed.size;
-            let fits = may_fit && self.fits(folder, listed.file)?;
+            let fits = may_fit && self.fits(folder, room, listed.file)?;
             judged.push(Candidate { listed, fits })?;
         }
         Ok(judged)

@@ -64,11 +64,11 @@ fn changed_of(metadata: &Metadata) -> u64 {
     seconds.saturating_mul(NANOS).saturating_add(nanos)
 }
 
-// None where there is no such file.
-fn if_there<T: Drop>(outcome: io::Result<T>) -> Result<Option<T>, FolderFault> {
+// None where the outcome is an error of this kind.
+fn unless<T: Drop>(kind: ErrorKind, outcome: io::Result<T>) -> Result<Option<T>, FolderFault> {
     match outcome {
         Ok(value) => Ok(Some(value)),
-        Err(error) if error.kind() == ErrorKind::NotFound => Ok(None),
+        Err(error) if error.kind() == kind => Ok(None),
         Err(error) => Err(FolderFault::from(error)),
     }
 }
@@ -118,7 +118,11 @@ impl<'r, R: Files<File = File> + AllocGlobal + Clock + Clone + Drop> LogFolder<'
             return Ok(None);
         }
         let path = path_of(self.rt.alloc(), self.path.as_str(), name)?;
-        let Some(metadata) = if_there(fs::symlink_metadata(self.rt, path.as_str()))? else {
+        let Some(metadata) = unless(
+            ErrorKind::NotFound,
+            fs::symlink_metadata(self.rt, path.as_str()),
+        )?
+        else {
             return Ok(None);
         };
         if !metadata.is_file() {
@@ -138,13 +142,17 @@ impl<'r, R: Files<File = File> + AllocGlobal + Clock + Clone + Drop> LogFolder<'
     // Opens the file of a name, if it is this one.
     fn opened(&self, name: &str, id: FileId) -> Result<Option<Opened>, FolderFault> {
         let path = path_of(self.rt.alloc(), self.path.as_str(), name)?;
-        let Some(metadata) = if_there(fs::symlink_metadata(self.rt, path.as_str()))? else {
+        let Some(metadata) = unless(
+            ErrorKind::NotFound,
+            fs::symlink_metadata(self.rt, path.as_str()),
+        )?
+        else {
             return Ok(None);
         };
         if !is_same(id_of(&metadata), id) {
             return Ok(None);
         }
-        let Some(file) = if_there(File::open(self.rt, path.as_str()))? else {
+        let Some(file) = unless(ErrorKind::NotFound, File::open(self.rt, path.as_str()))? else {
             return Ok(None);
         };
         if !is_same(id_of(&file.metadata()?), id) {
@@ -161,10 +169,8 @@ impl<'r, R: Files<File = File> + AllocGlobal + Clock + Clone + Drop> LogFolder<'
     // Looks for a file in the folder, and opens it.
     fn found(&self, id: FileId) -> Result<Option<Opened>, FolderFault> {
         for entry in fs::read_dir(self.rt, self.path.as_str())? {
-            let entry = match entry {
-                Ok(entry) => entry,
-                Err(error) if error.kind() == ErrorKind::InvalidFilename => continue,
-                Err(error) => return Err(FolderFault::from(error)),
+            let Some(entry) = unless(ErrorKind::InvalidFilename, entry)? else {
+                continue;
             };
             if let Some(opened) = self.opened(entry.file_name(), id)? {
                 return Ok(Some(opened));
@@ -220,10 +226,8 @@ impl<R: Files<File = File> + AllocGlobal + Clock + Clone + Drop> Folder for LogF
     fn list(&mut self, log: &[u8]) -> Result<Vec<Listed>, FolderFault> {
         let mut files = Vec::new(self.rt.alloc());
         for entry in fs::read_dir(self.rt, self.path.as_str())? {
-            let entry = match entry {
-                Ok(entry) => entry,
-                Err(error) if error.kind() == ErrorKind::InvalidFilename => continue,
-                Err(error) => return Err(FolderFault::from(error)),
+            let Some(entry) = unless(ErrorKind::InvalidFilename, entry)? else {
+                continue;
             };
             if let Some(listed) = self.listed(log, entry.file_name())? {
                 files.push(listed)?;
@@ -259,7 +263,11 @@ impl<R: Files<File = File> + AllocGlobal + Clock + Clone + Drop> Folder for LogF
     }
 
     fn ended(&mut self, file: FileId) -> Result<Option<Ended>, FolderFault> {
-        let Some(log) = if_there(fs::symlink_metadata(self.rt, self.log.as_str()))? else {
+        let Some(log) = unless(
+            ErrorKind::NotFound,
+            fs::symlink_metadata(self.rt, self.log.as_str()),
+        )?
+        else {
             return Ok(None);
         };
         if is_same(id_of(&log), file) || !is_open(&self.own, file) {

@@ -1,6 +1,6 @@
 //! Numbers in the text of a position.
 
-ghost use Rattle.std.specs.Prelude.{◌≡◌, ◌<◌, length, IfSome, option_map};
+ghost use Rattle.std.specs.Prelude.{◌≡◌, option_map};
 ghost use Rattle.wsm_follow.specs.Position.{number_from, number_of, with_digit};
 
 use crate::names::is_digit;
@@ -18,8 +18,7 @@ fn with_digit(value: u64, byte: u8) -> Option<u64>
 
 // A number of which digits were read, and the text behind its colon.
 fn number_from(first: u64, text: &[u8]) -> Option<(u64, &[u8])>
-    ensures value { option_map (λ p. (p.0, p.1.now)) result ≡ number_from first text.now }
-    ensures shorter { IfSome result (λ p. length p.1.now < length text.now) }
+    ensures { option_map (λ p. (p.0, p.1.now)) result ≡ number_from first text.now }
 {
     let mut value = first;
     for (i, byte) in text.iter().enumerate() {
@@ -33,8 +32,7 @@ fn number_from(first: u64, text: &[u8]) -> Option<(u64, &[u8])>
 
 /// The number that a text begins with, and the text behind its colon.
 pub fn number_of(text: &[u8]) -> Option<(u64, &[u8])>
-    ensures value { option_map (λ p. (p.0, p.1.now)) result ≡ number_of text.now }
-    ensures shorter { IfSome result (λ p. length p.1.now < length text.now) }
+    ensures { option_map (λ p. (p.0, p.1.now)) result ≡ number_of text.now }
 {
     let (first, rest) = text.split_first()?;
     if is_digit(*first) {

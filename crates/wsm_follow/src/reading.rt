@@ -33,7 +33,7 @@ pub struct Reading {
 }
 
 impl Reading {
-    ghost use Rattle.std.specs.Prelude.{◌≡◌, ◌≤◌, ◌<◌, ◌+◌, ◌-◌, ◌++◌, ℕ, List, Some, IfOk, IfSome, OnOk, length, min, take, vec_len};
+    ghost use Rattle.std.specs.Prelude.{◌≡◌, ◌≤◌, ◌<◌, ◌+◌, ◌++◌, ℕ, List, Some, IfOk, IfSome, OnOk, length, take, vec_len};
     ghost use Rattle.wsm_follow.specs.Logs.{bytes_of};
     ghost use Rattle.wsm_follow.specs.Reads.{AreWhole, EndsAt, Reads, most_of, text_of};
 
@@ -95,7 +95,10 @@ impl Reading {
                     self.add(place + 1)?;
                     return Ok(Found::Lines(at + (place as u64 + 1)));
                 }
-                None => self.keep(count)?,
+                None => {
+                    let wanted = self.most.saturating_sub(self.text.len());
+                    self.add(count.min(wanted))?;
+                }
             }
             at += count as u64;
         }
@@ -110,17 +113,6 @@ impl Reading {
     {
         let bytes = self.room.as_slice();
         memrchr(b'\n', &bytes[..count])
-    }
-
-    // Adds so many of the bytes that were read last to the text, as far as they are kept of a line.
-    fn keep(&mut self, count: usize) -> Result<(), FolderFault>
-        requires { count ≤ vec_len self.old.room }
-        ensures text { OnOk result (self.new.text.items ≡ self.old.text.items ++ take (min count (self.old.most - vec_len self.old.text)) self.old.room.items) }
-        ensures room { self.new.room ≡ self.old.room }
-        ensures most { self.new.most ≡ self.old.most }
-    {
-        let wanted = self.most.saturating_sub(self.text.len());
-        self.add(count.min(wanted))
     }
 
     // Adds so many of the bytes that were read last to the text.

@@ -21,14 +21,16 @@ pub bytes-preserved : goal.bytes-preserved
 bytes-preserved g c =
     let kept = c.bytes.invariant in
     let before = c.bytes.self in
-    let after = c.keep.new.self in
+    let after = c.add-in-None.new.self in
     let room = c.read_over.new.room in
     let count = c.in_ok-count.count in
-    let done = c.in_ok-keep-in-None.ensures in
+    let done = c.in_ok-add-in-None.ensures in
     let part_len : length before.text.items ≡ vec_len before.text = search rules in
     let room_len : length room.items ≡ vec_len room = search rules in
     let more = min count (before.most - vec_len before.text) in
-    let grown : length after.text.items ≤ length before.text.items + more = added_short more before.text.items room.items after.text.items done.text in
+    let wanted : c.min.result ≡ more = omega (arith, c.min.ensures, c.saturating_sub-wanted.ensures, c.len.ensures) in
+    let text : after.text.items ≡ before.text.items ++ take more room.items = done.text ∙ ap (λ (n : ℕ). before.text.items ++ take n room.items) wanted in
+    let grown : length after.text.items ≤ length before.text.items + more = added_short more before.text.items room.items after.text.items text in
     record {
       same_logs = c.in_ok-count.ensures.logs ∙ kept.same_logs;
       most = done.most ∙ kept.most;
@@ -36,7 +38,7 @@ bytes-preserved g c =
       short = omega (arith, grown, kept.short, part_len, done.most);
       part = λ known is. subst (λ (most : ℕ). ReadsPart most known c.args.start (c.bytes.at + count) after.text.items) (sym done.most)
           (reads_kept before.most known c.args.start c.bytes.at count (vec_len before.text) before.text.items room.items after.text.items (kept.part known is)
-          (c.in_ok-count.ensures.bytes known (ap (bytes_of c.args.file) kept.same_logs ∙ is)) c.in-None.ensures.ends (omega (arith, c.in_ok-count.ensures.within, room_len)) part_len kept.short done.text);
+          (c.in_ok-count.ensures.bytes known (ap (bytes_of c.args.file) kept.same_logs ∙ is)) c.in-None.ensures.ends (omega (arith, c.in_ok-count.ensures.within, room_len)) part_len kept.short text);
     }
 
 pub returns-then-count-eq0-clause-read : goal.returns-then-count-eq0-clause-read

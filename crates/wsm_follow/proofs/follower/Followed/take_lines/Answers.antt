@@ -1,4 +1,4 @@
-use Rattle.wsm_follow.proofs.follower.Follower.take_lines.Goals as goal
+use Rattle.wsm_follow.proofs.follower.Followed.take_lines.Goals as goal
 
 pub returns-clause-sums : goal.returns-clause-sums
 returns-clause-sums g c known is _ =
