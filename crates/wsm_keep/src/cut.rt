@@ -8,6 +8,7 @@ ghost use Rattle.wsm_keep.specs.Holds.{times_in};
 ghost use Rattle.wsm_keep.specs.Items.{times_of};
 
 use crate::firsts::Firsts;
+use crate::parting::Parting;
 use crate::queue::Queue;
 use crate::sessions::firsts_of_sessions;
 use std::alloc::{AllocError, Global};
@@ -26,24 +27,25 @@ pub fn firsts_at(
     ensures { IfOk result (λ f. (key : ℕ) → times_of f key ≡ dropped_time shape expired (times_in key queue.now)) }
 {
     match shape {
-        Shape::Fixed(size) => Ok(firsts_of_grid(alloc, size, size, expired)),
-        Shape::Sliding(size, period) => Ok(firsts_of_grid(alloc, size, period, expired)),
-        Shape::Session(gap) => firsts_of_sessions(alloc, gap, expired - gap, queue),
+        Shape::Fixed(size) => Ok(alike(alloc, first_start(size, size, expired))),
+        Shape::Sliding(size, period) => Ok(alike(alloc, first_start(size, period, expired))),
+        Shape::Session(gap) => {
+            let parting = Parting {
+                gap,
+                time: expired - gap,
+            };
+            firsts_of_sessions(alloc, parting, queue)
+        }
     }
 }
 
-// The same where windows start at the multiples of a period.
-fn firsts_of_grid(alloc: Global, size: i64, period: i64, expired: i64) -> Firsts
-    requires period_low { pos 1 ≤ℤ period }
-    requires period_high { period ≤ℤ size }
-    requires size_high { size ≤ℤ greatest_span }
-    requires low { (pos 0 -ℤ pos 1000000000000) ≤ℤ expired }
-    requires high { expired ≤ℤ pos 10000000000000000 }
-    ensures { (key : ℕ) → times_of result key ≡ windows.first_start size period expired -ℤ pos 1 }
+// The same first time of all keys.
+fn alike(alloc: Global, first: i64) -> Firsts
+    ensures { (key : ℕ) → times_of result key ≡ first -ℤ pos 1 }
 {
     Firsts {
         each: Vec::new(alloc),
-        others: first_start(size, period, expired),
+        others: first,
     }
 }
 

@@ -11,7 +11,7 @@ ghost use Rattle.wsm_keep.specs.Staying.{events_in, row_of, staying};
 ghost use Rattle.wsm_keep.specs.Holds.{Written, read, text_of};
 ghost use Rattle.wsm_keep.specs.Begins.{HasBegun, HasCounted, begins_of};
 ghost use Rattle.wsm_keep.specs.WrittenBeyond.{rows_beyond};
-ghost use Rattle.wsm_keep.specs.Keeper.{AreAdded, Fits, HasSettings, IsCut, IsLawfulQuery, IsTold, SelectsTaken};
+ghost use Rattle.wsm_keep.specs.Keeper.{AreAdded, Fits, IsCut, IsLawfulQuery, IsTold, SelectsTaken};
 ghost use Rattle.wsm_keep.specs.Keeper.{queue_at, queued_if, since_at, takes as takes_what};
 
 use crate::begins::{Begin, add_begins, leave_beyond};
@@ -144,9 +144,7 @@ impl Keeper {
 
     // Queues a row that does something, where panes are written.
     fn queue_for_panes(&mut self, judged: Judged, text: &[u8]) -> Result<(), AllocError>
-        ensures settings { HasSettings self.old self.new }
-        ensures begins { self.new.begins ≡ self.old.begins }
-        ensures since { self.new.since ≡ self.old.since }
+        ensures others { self.new ≡ record self.old { queue = self.new.queue; before = self.new.before } }
         ensures before { self.new.before ≡ judged.mark }
         ensures queue { OnOk result (self.new.queue ≡ queued_if judged.what text.now self.old.queue) }
     {
@@ -159,8 +157,7 @@ impl Keeper {
 
     // Has a row wait for the next rise. At a rise all that waited are queued.
     fn queue_for_streams(&mut self, judged: Judged, text: &[u8]) -> Result<(), AllocError>
-        ensures settings { HasSettings self.old self.new }
-        ensures begins { self.new.begins ≡ self.old.begins }
+        ensures others { self.new ≡ record self.old { queue = self.new.queue; since = self.new.since; before = self.new.before } }
         ensures before { OnOk result (self.new.before ≡ unwrap_or judged.rise self.old.before) }
         ensures queue { OnOk result (self.new.queue ≡ queue_at judged.rise self.old.since self.old.queue) }
         ensures since { OnOk result (self.new.since ≡ (judged.what, text.now) ∷ since_at judged.rise self.old.since) }

@@ -11,6 +11,7 @@ mod cut;
 mod firsts;
 mod keeper;
 pub mod laws;
+mod parting;
 mod queue;
 mod sessions;
 mod what;

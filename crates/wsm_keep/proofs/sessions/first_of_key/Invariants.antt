@@ -4,4 +4,4 @@ use Rattle.wsm_keep.proofs.sessions.first_of_key.Given as goal
 
 -- none of the sessions so far is parted
 abbrev pub invariant-loop-place : goal.invariant-loop-place
-invariant-loop-place l = unparted_time l.gap l.time (drop l.place l.sessions.windows) ≡ unparted_time l.gap l.time l.sessions.windows
+invariant-loop-place l = unparted_time l.parting.gap l.parting.time (drop l.place l.sessions.windows) ≡ unparted_time l.parting.gap l.parting.time l.sessions.windows

@@ -1,5 +1,4 @@
 use Rattle.std.proofs.Common.{rules, ◌≡◌, ◌-ℤ◌, ◌+ℤ◌, ℤ, pos, List, map, SFits, w64, to_z, of_z, to_z-of_z, ap, subst, ◌∙◌}
-use Rattle.std.proofs.lemmas.Int as int
 use Rattle.wsm_sessions.specs.Live.{Live}
 use Rattle.wsm_semantics.specs.FromWatermark.{unparted_time}
 use Rattle.wsm_keep.specs.declared.firsts.Firsts.{Firsts}
@@ -11,14 +10,13 @@ use Rattle.wsm_keep.proofs.sessions.firsts_of_sessions.Goals as goal
 
 pub returns : goal.returns
 returns c =
-    let gap : SFits w64 c.args.gap = c.ranges.gap in
-    let time : SFits w64 c.args.time = c.ranges.time in
-    let next : SFits w64 (c.args.time +ℤ pos 1) = search rules in
+    let p = c.args.parting in
+    let time : SFits w64 p.time = search rules in
+    let next : SFits w64 (p.time +ℤ pos 1) = search rules in
     let keys = c.in_ok-keys.keys.items in
-    let f : Firsts = record { each = c.in_ok-each.each; others = to_z w64 (of_z w64 (to_z w64 (of_z w64 c.args.time) +ℤ pos 1)) } in
+    let f : Firsts = record { each = c.in_ok-each.each; others = to_z w64 (of_z w64 (to_z w64 (of_z w64 p.time) +ℤ pos 1)) } in
     let (texts, is) = c.items.ensures in
-    let are : AreOfKeys c.args.gap keys c.args.queue.now =
-    subst (λ (queue : List Queued). AreOfKeys c.args.gap keys queue) is (subst (λ (g : ℤ). AreOfKeys g keys (queue_of texts c.items.result.now)) (to_z-of_z gap) (c.in_ok-keys.ensures texts)) in
-    let firsts : map (λ first. first -ℤ pos 1) f.each.items ≡ map (λ (s : Live). unparted_time c.args.gap c.args.time s.windows) keys =
-    (simp int.to_z-of_z at c.in_ok-each.ensures) ∙ ap (map (λ (s : Live). unparted_time c.args.gap c.args.time s.windows)) c.deref.ensures.value in
-    firsts_are c.args.gap c.args.time f keys c.args.queue.now are firsts (ap (λ (t : ℤ). to_z w64 (of_z w64 (t +ℤ pos 1))) (to_z-of_z time) ∙ to_z-of_z next)
+    let are : AreOfKeys p.gap keys c.args.queue.now = subst (λ (queue : List Queued). AreOfKeys p.gap keys queue) is (c.in_ok-keys.ensures texts) in
+    let firsts : map (λ first. first -ℤ pos 1) f.each.items ≡ map (λ (s : Live). unparted_time p.gap p.time s.windows) keys =
+    c.in_ok-each.ensures ∙ ap (map (λ (s : Live). unparted_time p.gap p.time s.windows)) c.deref.ensures.value in
+    firsts_are p.gap p.time f keys c.args.queue.now are firsts (ap (λ (t : ℤ). to_z w64 (of_z w64 (t +ℤ pos 1))) (to_z-of_z time) ∙ to_z-of_z next)

@@ -1,4 +1,4 @@
-use Rattle.std.proofs.Common.{◌≡◌, ◌∷◌, ◌+◌, List, take, get_or, w64, to_z, of_z, sym, subst, arith}
+use Rattle.std.proofs.Common.{◌≡◌, ◌∷◌, ◌+◌, List, take, get_or, sym, subst, arith}
 use Rattle.wsm_keep.specs.declared.queue.Item.{Item}
 use Rattle.wsm_keep.specs.Holds.{Queued}
 use Rattle.wsm_keep.specs.Items.{item_of, queue_of}
@@ -12,5 +12,5 @@ loop-item-preserved c = λ texts.
     let i = c.loop-item.item-index in
     let item : Item = get_or items i no_item in
     let more : queue_of texts (take (i + 1) items) ≡ item_of texts item ∷ queue_of texts (take i items) = queue_of-next texts items i no_item (omega (arith, c.loop-item-test.true)) in
-    subst (λ (queue : List Queued). AreOfKeys (to_z w64 (of_z w64 c.args.gap)) c.place.new.keys.items queue) (sym more)
-    (c.in_ok-place.ensures (to_z w64 (of_z w64 c.args.gap)) (queue_of texts (take i items)) (item_of texts item).1 (c.loop-item.invariant texts))
+    subst (λ (queue : List Queued). AreOfKeys c.args.parting.gap c.place.new.keys.items queue) (sym more)
+    (c.in_ok-place.ensures c.args.parting.gap (queue_of texts (take i items)) (item_of texts item).1 (c.loop-item.invariant texts))
