@@ -95,11 +95,6 @@ gone_begun {turn = turn} {stands = stands} {run = run} {live = live} {text = tex
   position = position;
 }
 
--- where it went well, both hold
-pub both_ok : {A E : Type 0} (r : Result A E) (P Q R : A → Type 0) → ((x : A) → P x → Q x → R x) → IfOk r P → IfOk r Q → IfOk r R
-both_ok (Ok x) P Q R both p q = both x p q
-both_ok (Err e) P Q R both p q = tt
-
 -- a run went on behind what the head stands for, and then over all chunks
 pub opened_by : {F T B : Type 0} {turn : B → Turn} {stands : T → B → List (List ℕ) → Type 0} {states : List ℕ → B → List (List ℕ) → Type 0} {head begin : List ℕ} {es : List Entry} {run mid : LiveRun T} {live : Live F T} {from to : List ℕ}
     → Resumed turn stands states head es run mid → GoneOn turn stands head begin es mid live from to → ((by : B) (before : List (List ℕ)) → IsBehind turn stands mid by before → Counts turn by before live.front) → Opened turn stands states head begin es run live from to

@@ -4,7 +4,6 @@ ghost use Rattle.std.specs.Prelude.{◌≡◌, ◌∷◌, [], true, false, IfErr
 ghost use Rattle.wsm_journal.specs.Text.{IsRecord};
 ghost use Rattle.wsm_journal.specs.Calls.{LeavesSince};
 ghost use Rattle.wsm_journal.specs.Kept.{IsCaused, IsLeftOr, IsOpen, folder_of, is_kept, records_of};
-ghost use Rattle.wsm_journal.specs.Seen.{entry_seen};
 ghost use Rattle.wsm_live.specs.Live.{head_entry};
 
 use std::alloc::{AllocError, Global};
@@ -30,24 +29,6 @@ fn is_head(alloc: Global, rows: &[u8], position: &[u8]) -> Result<bool, AllocErr
     } else {
         Ok(false)
     }
-}
-
-// Puts a record in the place of all.
-fn replace_by<F: JournalFolder>(
-    alloc: Global,
-    journal: &mut JournalFile<F>,
-    written: &Record<'_>,
-) -> Result<(), ReplaceError>
-    requires settled { IsOpen F.folder journal.old }
-    requires record { IsRecord (entry_seen written.now) }
-    ensures settled { OnOk result (IsOpen F.folder journal.new) }
-    ensures replaced { OnOk result (records_of F.folder journal.new ≡ option_map (λ _. entry_seen written.now ∷ []) (records_of F.folder journal.old)) }
-    ensures kept { IfErr result (λ e. is_kept e ≡ true → IsOpen F.folder journal.new × (records_of F.folder journal.new ≡ records_of F.folder journal.old)) }
-    ensures any_moment { LeavesSince F.moment F.left_since (folder_of journal.old) (folder_of journal.new)
-        (IsLeftOr (F.folder (folder_of journal.old)) (entry_seen written.now ∷ [])) }
-    ensures failed { IfErr result (IsCaused (F.has_failed (folder_of journal.new))) }
-{
-    journal.replace(alloc, &[*written])
 }
 
 /// Puts a head with these rows in the place of a journal's records; answers false where they can't be a record, and all is as it was.
@@ -76,7 +57,7 @@ pub fn replace_by_head<F: JournalFolder>(
     };
     match is_head(alloc, rows, position) {
         Ok(true) => {
-            replace_by(alloc, journal, &head)?;
+            journal.replace(alloc, &[head])?;
             Ok(true)
         }
         Ok(false) => Ok(false),

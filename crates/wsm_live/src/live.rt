@@ -243,7 +243,7 @@ impl<F: JournalFolder, T: LineTaker> Live<F, T> {
                     count: run.count(),
                     sum: run.sum(),
                 };
-                let live = Live {
+                let mut live = Live {
                     journal,
                     run,
                     front,
@@ -252,44 +252,16 @@ impl<F: JournalFolder, T: LineTaker> Live<F, T> {
                     position: Vec::new(alloc),
                     rows: Vec::new(alloc),
                 };
-                live.gone_on(records, head, begin, out)
+                match live.take_records(records, head, begin, out) {
+                    Ok(()) => Ok(live),
+                    Err(error) => Err((error, live.into_folder())),
+                }
             }
             Err(error) => Err((error, journal.into_folder())),
         }
     }
 
     // Goes on over the records of its journal, where the run stands behind what their head stands for.
-    fn gone_on(
-        self,
-        records: &[Record<'_>],
-        head: &HeadRow,
-        begin: &[u8],
-        out: &mut Vec<u8>,
-    ) -> Result<Live<F, T>, (LiveError, F)>
-        requires settled { IsOpen F.folder (journal_of self) }
-        requires position { is_position begin.now ≡ true }
-        ensures settled { IfOk result (λ live. IsOpen F.folder (journal_of live)) }
-        ensures records { IfOk result (λ live. IsBegun (map entry_seen records.now) (last_of (journal_of self)) (row_in head.now) begin.now
-            (records_of F.folder (journal_of self)) (records_of F.folder (journal_of live))) }
-        ensures gone_on { IfOk result (λ live. GoneOn T.turn T.stands (row_in head.now) begin.now (map entry_seen records.now)
-            (run_of self) live out.old.items out.new.items) }
-        ensures front { IfOk result (λ live. front_of live ≡ front_of self) }
-        ensures kept { OnErr result (out.new.items ≡ out.old.items) }
-        ensures any_moment { IfOk result
-            (λ live. LeavesSince F.moment F.left_since (folder_of (journal_of self)) (folder_of (journal_of live))
-            (IsLeftBegun (F.folder (folder_of (journal_of self))) (map entry_seen records.now) (last_of (journal_of self)) (row_in head.now) begin.now)) }
-        ensures any_moment_err { IfErr result
-            (λ e. LeavesSince F.moment F.left_since (folder_of (journal_of self)) e.1
-            (IsLeftBegun (F.folder (folder_of (journal_of self))) (map entry_seen records.now) (last_of (journal_of self)) (row_in head.now) begin.now)) }
-    {
-        let mut live = self;
-        match live.take_records(records, head, begin, out) {
-            Ok(()) => Ok(live),
-            Err(error) => Err((error, live.into_folder())),
-        }
-    }
-
-    // The same in its place.
     fn take_records(
         &mut self,
         records: &[Record<'_>],
@@ -344,17 +316,14 @@ impl<F: JournalFolder, T: LineTaker> Live<F, T> {
         head: &HeadRow,
         out: &mut Vec<u8>,
     ) -> Result<(), LiveError>
-        requires settled { IsOpen F.folder (journal_of self.old) }
         requires first { Some first.now ≡ slice_get records.now 0 }
-        ensures settled { OnOk result (IsOpen F.folder (journal_of self.new)) }
         ensures records { (begin : List ℕ) →
             OnOk result (IsBegun (map entry_seen records.now) (last_of (journal_of self.old)) (row_in head.now) begin
             (records_of F.folder (journal_of self.old)) (records_of F.folder (journal_of self.new))) }
         ensures gone_on { (begin : List ℕ) →
             OnOk result (GoneOn T.turn T.stands (row_in head.now) begin (map entry_seen records.now) (run_of self.old) self.new out.old.items out.new.items) }
-        ensures front { front_of self.new ≡ front_of self.old }
         ensures kept { OnErr result (out.new.items ≡ out.old.items) }
-        ensures journal { journal_of self.new ≡ journal_of self.old }
+        ensures others { (journal_of self.new ≡ journal_of self.old) × (front_of self.new ≡ front_of self.old) }
     {
         let chunks = rest_of(records);
         put(own_row(head.bytes(), first.rows), &mut self.head)?;

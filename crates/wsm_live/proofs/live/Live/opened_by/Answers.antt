@@ -7,17 +7,18 @@ use Rattle.wsm_live.specs.Live.{IsLeftBegun, Resumed}
 use Rattle.wsm_live.proofs.LiveLemmas as lemmas
 use Rattle.wsm_live.proofs.live.Live.opened_by.Goals as goal
 
-pub returns-in-Ok-clause-opened : goal.returns-in-Ok-clause-opened
-returns-in-Ok-clause-opened g c =
+pub returns-in-Ok-take_records-clause-opened : goal.returns-in-Ok-take_records-clause-opened
+returns-in-Ok-take_records-clause-opened g c =
     let behind = subst (λ (h : List ℕ). Resumed g.T.LineTaker.turn g.T.LineTaker.stands g.T.LineTaker.states h (map entry_seen c.args.records.now) c.args.run c.in-Ok.run') c.bytes.ensures.value c.in-Ok.ensures in
-    lemmas.both_ok c.gone_on.result _ _ _ (λ live gone front. lemmas.opened_by behind gone (λ by before is. record {
+    let front = c.in-Ok-take_records.ensures.front in
+    lemmas.opened_by behind c.in-Ok-take_records.ensures.gone_on (λ by before is. record {
       count = ap (λ (f : Front). f.count) front ∙ c.count.ensures by before is;
       sum = ap (λ (f : Front). f.sum) front ∙ c.sum.ensures by before is;
-    })) c.gone_on.ensures.gone_on c.gone_on.ensures.front
+    })
 
 pub returns-in-Err-clause-any_moment_err : goal.returns-in-Err-clause-any_moment_err
 returns-in-Err-clause-any_moment_err g c =
     let j = c.args.journal in
     let P = IsLeftBegun (g.F.JournalFolder.folder j.folder) (map entry_seen c.args.records.now) j.last c.args.head.now.bytes.items c.args.begin.now in
-    subst (λ f. LeavesSince g.F.JournalFolder.moment g.F.JournalFolder.left_since j.folder f P) (sym c.into_folder.ensures)
+    subst (λ f. LeavesSince g.F.JournalFolder.moment g.F.JournalFolder.left_since j.folder f P) (sym c.into_folder-in-Err.ensures)
     (started g.F.JournalFolder.moment g.F.JournalFolder.left_since j.folder P (λ left since. inl (g.met.F.JournalFolder.only_now j.folder left since)))

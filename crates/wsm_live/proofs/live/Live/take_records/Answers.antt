@@ -26,7 +26,7 @@ pub returns-in-Some-clause-any_moment : goal.returns-in-Some-clause-any_moment
 returns-in-Some-clause-any_moment g c =
     let j = c.args.self.now.journal in
     let P = IsLeftBegun (g.F.JournalFolder.folder j.folder) (map entry_seen c.args.records.now) j.last c.args.head.now.bytes.items c.args.begin.now in
-    subst (λ k. LeavesSince g.F.JournalFolder.moment g.F.JournalFolder.left_since j.folder k.folder P) (sym c.go_on.ensures.journal)
+    subst (λ k. LeavesSince g.F.JournalFolder.moment g.F.JournalFolder.left_since j.folder k.folder P) (sym c.go_on.ensures.others.0)
     (started g.F.JournalFolder.moment g.F.JournalFolder.left_since j.folder P (λ left since. inl (g.met.F.JournalFolder.only_now j.folder left since)))
 
 pub returns-in-None-clause-any_moment : goal.returns-in-None-clause-any_moment
