@@ -3,7 +3,7 @@
 ghost use Rattle.std.specs.Prelude.{◌≡◌, ◌<◌, ◌∷◌, List, ℕ, drop, length, OnOk};
 ghost use Rattle.wsm_live.specs.Told.{Turn};
 
-use crate::cut_row::{CutRow, add_front, cut_of};
+use crate::cut_row::{add_front, cut_of};
 use crate::rows::{behind_line, in_front, kept_part, line_end, line_of};
 use std::alloc::{AllocError, Global};
 use wsm_journal::Record;
@@ -90,8 +90,7 @@ impl<T: LineTaker> LiveRun<T> {
     ghost use Rattle.wsm_live.specs.Kept.{read_lines};
     ghost use Rattle.wsm_numbered.specs.Numbered.{sum_over};
     ghost use Rattle.wsm_live.specs.Told.{told};
-    ghost use Rattle.wsm_live.specs.Head.{CutStates, StandsFor, is_readable};
-    ghost use Rattle.wsm_live.specs.CutSeen.{cut_seen};
+    ghost use Rattle.wsm_live.specs.Head.{StandsFor, is_readable};
     ghost use Rattle.wsm_live.specs.Live.{AddsCut, IsBehind, IsStill, Took, chunk_lines, longest_of, taker_of};
 
     /// Before the first line. Of a line at most `longest` bytes are wanted; two more are taken of one that is longer.
@@ -160,18 +159,9 @@ impl<T: LineTaker> LiveRun<T> {
         if row.is_empty() {
             return Ok(Some(self));
         }
-        match cut_of(row) {
-            Some(cut) => self.resume_cut(&cut),
-            None => Ok(None),
-        }
-    }
-
-    // The same from a row that was read.
-    fn resume_cut(self, cut: &CutRow<'_>) -> Result<Option<LiveRun<T>>, AllocError>
-        ensures behind { (by : T.By) (before : List (List ℕ)) → IsBehind T.turn T.stands self by [] → CutStates T.turn T.states by before (cut_seen cut.now) →
-            IfOk result (λ o. IfSome o (λ run. IsBehind T.turn T.stands run by before)) }
-        ensures longest { IfOk result (λ o. IfSome o (λ run. longest_of run ≡ longest_of self)) }
-    {
+        let Some(cut) = cut_of(row) else {
+            return Ok(None);
+        };
         match self.taker.resume(cut.text)? {
             Some(taker) => Ok(Some(LiveRun {
                 taker,
