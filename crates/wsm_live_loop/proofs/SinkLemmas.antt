@@ -1,39 +1,57 @@
 -- What sinks have, one more at a time.
-use Rattle.std.proofs.Common.{◌≡◌, ◌≤◌, ◌<◌, ◌+◌, ℕ, List, All, IfSome, MatchOption, Option, Some, None, length, min, take, get_or, refl, sym, subst, arith}
-use Rattle.std.proofs.lemmas.List.{take_all}
+use Rattle.std.proofs.Common.{◌≡◌, ◌⊎◌, inl, inr, ◌≤◌, ◌<◌, ◌+◌, ℕ, List, All, Any, IfNone, IfSome, IsSomeAnd, MatchOption, Option, Some, None, length, min, take, get_or, refl, sym, subst, arith}
+use Rattle.std.proofs.lemmas.Bool.{cases_lt}
+use Rattle.std.proofs.lemmas.List.{nil_from_length, take_all}
 use Rattle.std.proofs.lemmas.List.Elements.{All-more, All-nil, All-weaker}
 use Rattle.wsm_live_files.specs.declared.taken.Taken.{Taken}
 use Rattle.wsm_live_files.specs.declared.taken.Told.{Told}
-use Rattle.wsm_live_loop.specs.Sinks.{IsLeast}
-
-HasLeast : ℕ → Taken → Type 0
-HasLeast least taken = IfSome taken.told (λ (told : Told). least ≤ told.count)
+use Rattle.wsm_live_loop.specs.Sinks.{HasAtLeast, HasCount, IsLeast}
 
 lesser : (o : Option Told) (a b : ℕ) → b ≤ a → IfSome o (λ told. a ≤ told.count) → IfSome o (λ told. b ≤ told.count)
 lesser None a b less h = tt
 lesser (Some told) a b less h = omega (arith, less, h)
 
-has : (o : Option Told) (count least : ℕ) → least ≤ count → IfSome o (λ told. told.count ≡ count) → IfSome o (λ told. least ≤ told.count)
+has : (o : Option Told) (count least : ℕ) → least ≤ count → IsSomeAnd o (λ told. told.count ≡ count) → IfSome o (λ told. least ≤ told.count)
 has None count least less is = tt
 has (Some told) count least less is = omega (arith, less, is)
 
--- none was looked at
-pub no_sink : (all : List Taken) → IsLeast None (take 0 all)
-no_sink all = refl
+-- of the first sinks: the least is that of one
+pub record Looked (least : Option ℕ) (sinks : List Taken) (i : ℕ) : Type 0 where
+  pub none : IfNone least (i ≡ 0)
+  pub each : IfSome least (λ n. All (HasAtLeast n) (take i sinks))
+  pub one : IfSome least (λ n. Any (HasCount n) sinks)
 
-pub one_more : (least : Option ℕ) (all : List Taken) (i : ℕ) (x : Taken) (count new : ℕ) → i < length all → x ≡ get_or all i x
-    → IsLeast least (take i all) → IfSome x.told (λ told. told.count ≡ count) → MatchOption least (new ≡ count) (λ least. new ≡ min least count)
-    → IsLeast (Some new) (take (i + 1) all)
-unfolding HasLeast
-one_more None all i x count new within is none has_count same =
-    All-more (HasLeast new) all i x within
-    (subst (All (HasLeast new)) (sym none) (All-nil (HasLeast new)))
-    (subst (HasLeast new) is (has x.told count new (omega (arith, same)) has_count))
-one_more (Some least) all i x count new within is before has_count same =
-    All-more (HasLeast new) all i x within
-    (All-weaker (HasLeast least) (HasLeast new) (λ y h. lesser y.told least new (omega (arith, same)) h) (take i all) before)
-    (subst (HasLeast new) is (has x.told count new (omega (arith, same)) has_count))
+pub none_yet : (sinks : List Taken) → Looked None sinks 0
+none_yet sinks = record { none = refl; each = tt; one = tt }
 
--- all were
-pub all_sinks : (least : Option ℕ) (all : List Taken) (i : ℕ) → length all ≤ i → IsLeast least (take i all) → IsLeast least all
-all_sinks least all i end h = subst (IsLeast least) (take_all i all end) h
+module _ (sinks : List Taken) (i : ℕ) (x : Taken) (count : ℕ) (within : i < length sinks) (is : x ≡ get_or sinks i x) (told : HasCount count x) where
+  of_it : (new : ℕ) → new ≡ count → Any (HasCount new) sinks
+  of_it new same = (i, x, within, sym is, subst (λ n. HasCount n x) (sym same) told)
+
+  at_least : (new : ℕ) → new ≤ count → HasAtLeast new (get_or sinks i x)
+  at_least new less = subst (HasAtLeast new) is (has x.told count new less told)
+
+  of_either : (least new : ℕ) → Any (HasCount least) sinks → new ≡ min least count → (least < count) ⊎ (count ≤ least) → Any (HasCount new) sinks
+  of_either least new old same (inl less) = let is : least ≡ new = omega (arith, same, less) in subst (λ n. Any (HasCount n) sinks) is old
+  of_either least new old same (inr less) = of_it new (omega (arith, same, less))
+
+  pub one_more : (least : Option ℕ) (new : ℕ) → Looked least sinks i → MatchOption least (new ≡ count) (λ least. new ≡ min least count) → Looked (Some new) sinks (i + 1)
+  one_more None new before same = record {
+    none = tt;
+    each = All-more (HasAtLeast new) sinks i x within
+        (subst (λ n. All (HasAtLeast new) (take n sinks)) (sym before.none) (All-nil (HasAtLeast new)))
+        (at_least new (omega (arith, same)));
+    one = of_it new same;
+  }
+  one_more (Some least) new before same = record {
+    none = tt;
+    each = All-more (HasAtLeast new) sinks i x within
+        (All-weaker (HasAtLeast least) (HasAtLeast new) (λ y h. lesser y.told least new (omega (arith, same)) h) (take i sinks) before.each)
+        (at_least new (omega (arith, same)));
+    one = of_either least new before.one same (cases_lt least count);
+  }
+
+-- of all
+pub all_looked : (least : Option ℕ) (sinks : List Taken) (i : ℕ) → length sinks ≤ i → Looked least sinks i → IsLeast least sinks
+all_looked None sinks i end h = nil_from_length sinks (omega (arith, end, h.none))
+all_looked (Some least) sinks i end h = (subst (All (HasAtLeast least)) (take_all i sinks end) h.each, h.one)

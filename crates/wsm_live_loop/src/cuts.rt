@@ -34,6 +34,7 @@ impl Cuts {
         ensures every { result.every ≡ every }
         ensures since { result.since ≡ now }
         ensures goes { result.is_stuck ≡ false }
+        ensures last { result.last ≡ 0 }
     {
         Cuts {
             every,

@@ -3,25 +3,11 @@
 use std::alloc::AllocError;
 use wsm_row_counts::Counts;
 
-/// The number, the sum and the rest of a numbered line.
-pub fn parts_of(line: &str) -> Option<(u64, u32, &str)> {
+// The number, the sum and the rest of a numbered line.
+fn parts_of(line: &str) -> Option<(u64, u32, &str)> {
     let (number, rest) = line.split_once(",")?;
     let (sum, rest) = rest.split_once(",")?;
     Some((number.parse::<u64>().ok()?, sum.parse::<u32>().ok()?, rest))
-}
-
-/// The sum up to the line of a number, among numbered lines.
-pub fn sum_at(lines: &[u8], number: u64) -> Option<u32> {
-    for line in lines.split(|byte| *byte == b'\n') {
-        let Ok(text) = str::from_utf8(line) else {
-            continue;
-        };
-        match parts_of(text) {
-            Some((at, sum, _)) if at == number => return Some(sum),
-            _ => {}
-        }
-    }
-    None
 }
 
 /// Counts the rows that stand in numbered lines.

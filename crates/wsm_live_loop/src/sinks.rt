@@ -1,11 +1,11 @@
 //! What sinks told, against what was handed out.
 
-ghost use Rattle.std.specs.Prelude.{◌≡◌, ◌↔◌, ◌≤◌, All, IfOk, IfSome, Some, IsTrue, MatchOption, min};
-ghost use Rattle.wsm_live_loop.specs.Sinks.{IsLeast, IsServedBy};
+ghost use Rattle.std.specs.Prelude.{◌≡◌, ◌++◌, ◌↔◌, All, Any, codes, decimal, IfErr, IfOk, IsSomeAnd, Some, IsTrue, MatchOption, min, string_bytes};
+ghost use Rattle.wsm_live_loop.specs.declared.sinks.Handed.{Handed};
+ghost use Rattle.wsm_live_loop.specs.Sinks.{front_of, has_line, IsEndedBy, IsLeast, IsRefusedBy, IsServedBy};
 
-use crate::numbered::sum_at;
 use crate::stop::{LiveStop, SinkFault};
-use std::alloc::Global;
+use std::alloc::{AllocError, Global};
 use wsm_live::Front;
 use wsm_live_files::{RunName, Taken, Told};
 
@@ -23,46 +23,60 @@ pub struct Handed<'h> {
 }
 
 impl Handed<'_> {
-    ghost use Rattle.std.specs.Prelude.{◌≡◌, IfSome, None, Some};
-    ghost use Rattle.wsm_live_loop.specs.declared.stop.SinkFault.TheVariants.{OtherLines};
-    ghost use Rattle.wsm_live_loop.specs.Sinks.{IsRefused, IsServed};
+    ghost use Rattle.std.specs.Prelude.{◌≡◌, IfOk, IfSome, None};
+    ghost use Rattle.wsm_live_loop.specs.Sinks.{has_sum, IsRefused, IsServed};
 
     // Why what a sink told can't be, if it can't.
-    fn fault(self, told: Told) -> Option<SinkFault>
-        ensures served { result ≡ None → IsServed self.entry told }
-        ensures refused { IfSome result (IsRefused self.entry told) }
+    fn fault(self, alloc: Global, told: Told) -> Result<Option<SinkFault>, AllocError>
+        ensures served { IfOk result (λ fault. fault ≡ None → IsServed self.entry told) }
+        ensures refused { IfOk result (λ fault. IfSome fault (IsRefused self.entry told)) }
     {
         if !is_of(self.name, told.name) {
-            return Some(SinkFault::OtherRun);
+            return Ok(Some(SinkFault::OtherRun));
         }
         if self.count < told.count {
-            return Some(SinkFault::Ahead);
+            return Ok(Some(SinkFault::Ahead));
         }
         if told.count < self.front.count {
-            return Some(SinkFault::Behind);
+            return Ok(Some(SinkFault::Behind));
         }
-        self.sum_fault(told)
+        if self.has_sum(alloc, told)? {
+            Ok(None)
+        } else {
+            Ok(Some(SinkFault::OtherLines))
+        }
     }
 
-    // Why the sum that a sink told can't be, where it is of lines that were handed out.
-    fn sum_fault(self, told: Told) -> Option<SinkFault>
-        ensures front { result ≡ None → told.count ≡ self.entry.front.count → told.sum ≡ self.entry.front.sum }
-        ensures why { IfSome result (λ fault. fault ≡ OtherLines) }
+    // Whether the sum that a sink told is that of the lines that were handed out, as far as these are there.
+    fn has_sum(self, alloc: Global, told: Told) -> Result<bool, AllocError>
+        ensures { IfOk result (λ has. has ≡ has_sum self.entry told) }
     {
-        let is_fitting = if told.count == self.front.count {
-            told.sum == self.front.sum
-        } else {
-            match self.lines {
-                Some(lines) => sum_at(lines, told.count) == Some(told.sum),
-                None => true,
+        if told.count == self.front.count {
+            return Ok(told.sum == self.front.sum);
+        }
+        match self.lines {
+            Some(lines) => {
+                let front = front_of(alloc, told.count, told.sum)?;
+                Ok(has_line(front.as_bytes(), lines))
             }
-        };
-        if is_fitting {
-            None
-        } else {
-            Some(SinkFault::OtherLines)
+            None => Ok(true),
         }
     }
+}
+
+// What a numbered line begins with.
+fn front_of(alloc: Global, number: u64, sum: u32) -> Result<String, AllocError>
+    ensures { IfOk result (λ front. string_bytes front ≡ front_of number sum) }
+{
+    format!(in alloc; "{number},{sum},")
+}
+
+// Whether one of the lines of a text begins with these bytes.
+fn has_line(front: &[u8], text: &[u8]) -> bool
+    ensures { result ≡ has_line front.now text.now }
+{
+    text.split(|byte| *byte == b'\n')
+        .any(|line| line.starts_with(front))
 }
 
 // Whether a run has this name.
@@ -75,7 +89,7 @@ fn is_of(name: Option<RunName>, told: RunName) -> bool
     }
 }
 
-/// How many lines the sink has that is furthest behind; none where no sink told.
+/// How many lines the sink has that is furthest behind; none where no sink told. A file that can't be served is told with why.
 ///
 /// # Errors
 ///
@@ -87,6 +101,7 @@ pub fn least_taken(
 ) -> Result<Option<u64>, LiveStop>
     ensures served { IfOk result (λ _. All (IsServedBy handed.entry) all.now) }
     ensures least { IfOk result (λ least. IsLeast least all.now) }
+    ensures refused { IfErr result (λ stop. Any (λ taken. IsEndedBy handed.entry taken stop) all.now) }
 {
     let mut least = None;
     for taken in all {
@@ -99,19 +114,23 @@ pub fn least_taken(
 // How many lines a sink has.
 fn taken_by(alloc: Global, taken: &Taken, handed: Handed<'_>) -> Result<u64, LiveStop>
     ensures served { IfOk result (λ _. IsServedBy handed.entry taken.now) }
-    ensures count { IfOk result (λ count. IfSome taken.now.told (λ told. told.count ≡ count)) }
+    ensures count { IfOk result (λ count. IsSomeAnd taken.now.told (λ told. told.count ≡ count)) }
+    ensures refused { IfErr result (IsEndedBy handed.entry taken.now) }
 {
     let Some(told) = taken.told else {
         return Err(fault_of(alloc, taken, SinkFault::NoText));
     };
-    match handed.fault(told) {
-        Some(fault) => Err(fault_of(alloc, taken, fault)),
-        None => Ok(told.count),
+    match handed.fault(alloc, told) {
+        Ok(None) => Ok(told.count),
+        Ok(Some(fault)) => Err(fault_of(alloc, taken, fault)),
+        Err(_) => Err(LiveStop::Memory),
     }
 }
 
 // That what a sink told can't be, or that memory was refused.
-fn fault_of(alloc: Global, taken: &Taken, fault: SinkFault) -> LiveStop {
+fn fault_of(alloc: Global, taken: &Taken, fault: SinkFault) -> LiveStop
+    ensures { (handed : Handed) → IsRefusedBy handed taken.now fault → IsEndedBy handed taken.now result }
+{
     match String::from_str(alloc, taken.file.as_str()) {
         Ok(file) => LiveStop::Sink(file, fault),
         Err(_) => LiveStop::Memory,

@@ -5,7 +5,7 @@ ghost use Rattle.std.specs.Prelude.{ℕ};
 use crate::begin::{LogPlace, begin_text, opened};
 use crate::follow;
 use crate::health::Health;
-use crate::numbered::{count_rows, sum_at};
+use crate::numbered::count_rows;
 use crate::settings::Settings;
 use crate::stop::{LiveStop, SinkFault};
 use std::alloc::{AllocError, Global};
@@ -22,14 +22,6 @@ use wsm_metrics::{Measured, Metric};
 use wsm_row_counts::Counts;
 
 const LINES: &[u8] = b"1,2178106104,pane,on_time,a,0,60,2,10\n2,77,refused,7,BadTag\n";
-
-#[test]
-fn finds_sums(rt: HostRuntime) -> Result<(), Fail> {
-    assert_eq!(rt; sum_at(LINES, 1), Some(2178106104));
-    assert_eq!(rt; sum_at(LINES, 2), Some(77));
-    assert_eq!(rt; sum_at(LINES, 3), None);
-    Ok(())
-}
 
 #[test]
 fn tells_health(rt: HostRuntime) -> Result<(), Fail> {
@@ -199,6 +191,7 @@ fn fault_of(stop: &LiveStop) -> Option<SinkFault> {
 #[test]
 fn serves_who_has_all_that_is_cut(rt: HostRuntime) -> Result<(), Fail> {
     assert!(rt; fault_of(&ended(&rt, "2,408365719")?).is_none());
+    assert!(rt; fault_of(&ended(&rt, "3,174526169")?).is_none());
     assert!(rt; fault_of(&ended(&rt, "3,408365719")?) == Some(SinkFault::OtherLines));
     assert!(rt; fault_of(&ended(&rt, "2,5")?) == Some(SinkFault::OtherLines));
     assert!(rt; fault_of(&ended(&rt, "4,5")?) == Some(SinkFault::Ahead));
