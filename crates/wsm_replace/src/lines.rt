@@ -1,10 +1,10 @@
 //! The whole lines of a reader.
 
-ghost use Rattle.std.specs.Prelude.{◌≡◌, ◌++◌, ◌<◌, ◌≤◌, ℕ, List, [], false, take, length, IfOk, OnOk, IfSome};
+ghost use Rattle.std.specs.Prelude.{◌≡◌, ◌++◌, ◌+◌, ◌<◌, ◌≤◌, ℕ, List, [], false, true, take, length, min, IfOk, OnOk, IfSome};
 ghost use Rattle.std.specs.Io.{ReadsAtMost};
 ghost use Rattle.std.specs.Io.Iter.{u64_saturate};
 ghost use Rattle.std.specs.Io.KnownBytes.{Appends, Consumes, IsAtEnd, Keeps};
-ghost use Rattle.wsm_replace.specs.Lines.{HasNone, input_of, lines_left, behind, unread};
+ghost use Rattle.wsm_replace.specs.Lines.{CanRead, HasNone, IsSpent, input_of, lines_left, behind, room, unread};
 
 use crate::fault::{ReplaceFault, reading};
 use memchr::{memchr, memrchr};
@@ -46,9 +46,11 @@ pub struct WholeLines<I> {
 }
 
 impl<I: Read + Drop> WholeLines<I> {
-    /// The lines among so many bytes of a reader.
+    /// The lines among so many bytes of a reader: as many bytes as these are read for lines, as far as it has them, and no more.
     pub fn new(alloc: Global, input: I, most: u64) -> Result<WholeLines<I>, AllocError>
-        ensures { IfOk result (λ lines. unread I.remaining lines ≡ I.remaining input) }
+        ensures all { IfOk result (λ lines. unread I.remaining lines ≡ I.remaining input) }
+        ensures most { IfOk result (λ lines. room lines ≡ most) }
+        ensures ready { IfOk result CanRead }
     {
         let mut chunk = Vec::new(alloc);
         chunk.resize(CHUNK, 0)?;
@@ -88,10 +90,26 @@ impl<I: Read + Drop> WholeLines<I> {
         copied(&mut self.input, out)
     }
 
+    // Reads lines where all that were read are handed on: none at the end.
+    fn refill(&mut self) -> io::Result<()>
+        ensures kept { OnOk result (Keeps (unread I.remaining self.old) (unread I.remaining self.new)) }
+        ensures room { OnOk result (room self.new ≡ room self.old) }
+        ensures ready { OnOk result (CanRead self.old → CanRead self.new) }
+        ensures end { OnOk result (CanRead self.old → lines_left self.new ≡ [] → IsSpent I.remaining self.new) }
+    {
+        if self.given < self.lines.len() {
+            return Ok(());
+        }
+        self.fill()
+    }
+
     // Reads lines in the place of those that were handed on: none at the end.
     fn fill(&mut self) -> io::Result<()>
         requires { lines_left self.old ≡ [] }
-        ensures { OnOk result (Keeps (unread I.remaining self.old) (unread I.remaining self.new)) }
+        ensures kept { OnOk result (Keeps (unread I.remaining self.old) (unread I.remaining self.new)) }
+        ensures room { OnOk result (room self.new ≡ room self.old) }
+        ensures ready { OnOk result (CanRead self.old → CanRead self.new) }
+        ensures end { OnOk result (CanRead self.old → lines_left self.new ≡ [] → IsSpent I.remaining self.new) }
     {
         self.lines.clear();
         self.given = 0;
@@ -100,14 +118,17 @@ impl<I: Read + Drop> WholeLines<I> {
                 return Ok(());
             }
         }
-        Ok(())
+        Err(io::Error::from(ErrorKind::Interrupted))
     }
 
     // Reads bytes, and answers whether that is all for now.
     fn has_lines(&mut self) -> io::Result<bool>
         requires { HasNone self.old }
         ensures kept { OnOk result (Keeps (unread I.remaining self.old) (unread I.remaining self.new)) }
+        ensures room { OnOk result (room self.new ≡ room self.old) }
+        ensures ready { OnOk result (CanRead self.old → CanRead self.new) }
         ensures none { IfOk result (λ is_all. is_all ≡ false → HasNone self.new) }
+        ensures end { IfOk result (λ is_all. is_all ≡ true → CanRead self.old → lines_left self.new ≡ [] → IsSpent I.remaining self.new) }
     {
         let count = self.read_on()?;
         self.left = self.left.saturating_sub(count as u64);
@@ -122,7 +143,10 @@ impl<I: Read + Drop> WholeLines<I> {
 
     // Reads bytes that may still be read for lines, and answers how many.
     fn read_on(&mut self) -> io::Result<usize>
+        ensures chunk { OnOk result (length self.new.chunk.items ≡ min self.old.left (length self.old.chunk.items)) }
         ensures bound { IfOk result (λ count. count ≤ length self.new.chunk.items) }
+        ensures left { self.new.left ≡ self.old.left }
+        ensures end { IfOk result (λ count. count ≡ 0 → 0 < length self.new.chunk.items → IsAtEnd (I.remaining self.new.input)) }
         ensures read { IfOk result (λ count. Consumes (I.remaining self.old.input) (I.remaining self.new.input) (take count self.new.chunk.items)) }
         ensures lines { (self.new.lines.items ≡ self.old.lines.items) × (self.new.given ≡ self.old.given) }
         ensures begun { self.new.begun.items ≡ self.old.begun.items }
@@ -138,7 +162,9 @@ impl<I: Read + Drop> WholeLines<I> {
         ensures taken { OnOk result (self.new.lines.items ++ self.new.begun.items ≡ self.old.lines.items
             ++ (self.old.begun.items ++ take count self.old.chunk.items)) }
         ensures none { IfOk result (λ is_all. is_all ≡ false → self.new.lines.items ≡ self.old.lines.items) }
+        ensures end { IfOk result (λ is_all. is_all ≡ true → self.new.lines.items ≡ [] → count ≡ 0) }
         ensures same { (self.new.given ≡ self.old.given) × (self.new.input ≡ self.old.input) }
+        ensures left { (self.new.left ≡ self.old.left) × (self.new.chunk.items ≡ self.old.chunk.items) }
     {
         let read = &self.chunk[..count];
         if memchr(b'"', read).is_some() {
@@ -162,10 +188,11 @@ impl<I: Read + Drop> Read for WholeLines<I> {
         ensures bound { ReadsAtMost result buf.new }
         ensures taken { IfOk result (λ count. Consumes (unread I.remaining self.old) (unread I.remaining self.new) (take count buf.new)) }
         ensures spent { IfOk result (λ count. count ≡ 0 → 0 < length buf.old → lines_left self.new ≡ []) }
+        ensures room { IfOk result (λ count. room self.new + count ≡ room self.old) }
+        ensures ready { OnOk result (CanRead self.old → CanRead self.new) }
+        ensures end { IfOk result (λ count. count ≡ 0 → 0 < length buf.old → CanRead self.old → IsSpent I.remaining self.new) }
     {
-        if self.given == self.lines.len() {
-            self.fill()?;
-        }
+        self.refill()?;
         let mut rest = self.lines.get(self.given..).unwrap_or_default();
         let count = rest.read(buf)?;
         self.given = self.given.saturating_add(count);
