@@ -3,3 +3,4 @@ mod WidenedStacks
 mod PassKept
 mod FirstRules
 mod Judgements
+mod PlacesKept

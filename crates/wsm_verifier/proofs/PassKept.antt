@@ -81,7 +81,7 @@ by_target x t p q s h =
       | false ↦ ap (λ b. cond b (narrowed x s) (narrowed (opposite_test x) s)) h
     ]
 
-get_any : (ls : List Label) (t : ℕ) (d e : Label) → t < length ls → get_or ls t d ≡ get_or ls t e
+pub get_any : (ls : List Label) (t : ℕ) (d e : Label) → t < length ls → get_or ls t d ≡ get_or ls t e
 get_any [] t d e h = absurd (omega arith)
 get_any (l ∷ ls) zero d e h = refl
 get_any (l ∷ ls) (suc t) d e h = get_any ls t d e (omega arith)
@@ -174,7 +174,7 @@ length-visits : (e : State) (r : Ranges) (is : List Instr) (p : ℕ) → p ≤ l
 length-visits e r is p h = sym (length-visits_back e r (reverse (take p is)) ∙ length-reverse (take p is) ∙ length-take-le p is h)
 
 -- the visits of one place more, where its label is what is kept
-visits_more : (e : State) (r : Ranges) (is : List Instr) (p : ℕ) (i : Instr) (l : Label) → slice_get is p ≡ Some i → l ≡ kept_for e p (visits e r (take p is)) →
+pub visits_more : (e : State) (r : Ranges) (is : List Instr) (p : ℕ) (i : Instr) (l : Label) → slice_get is p ≡ Some i → l ≡ kept_for e p (visits e r (take p is)) →
     visits e r (take (suc p) is) ≡ visit r p i l ∷ visits e r (take p is)
 visits_more e r is p i l h is_kept =
     visits_next e r is p i h

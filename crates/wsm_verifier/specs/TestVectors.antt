@@ -11,7 +11,7 @@ use Rattle.wsm_rules.specs.declared.rejection.Rule.TheVariants as rule
 use Rattle.wsm_rules.specs.declared.rejection.Part.TheVariants.{Code}
 use Rattle.wsm_verifier.specs.Vectors.{base, costs, judged, refused}
 
-abbrev test : ℕ → Comparison → ℤ → ℕ → Instr
+abbrev pub test : ℕ → Comparison → ℤ → ℕ → Instr
 test field comparison number target = Test (record { field = field; comparison = comparison; number = number }) target
 
 -- a field that was tested may divide where the test is true, and after both ways it is as it was

@@ -1,9 +1,10 @@
 //! What a place of a section is known to have.
 
-ghost use Rattle.std.specs.Prelude.{◌≡◌, ℕ, cond, Some, IfOk, IfErr};
+ghost use Rattle.std.specs.Prelude.{◌≡◌, ℕ, cond, option_map, Some, IfOk, IfErr};
 ghost use Rattle.wsm_program.specs.declared.Instr.{Instr};
 ghost use Rattle.wsm_rules.specs.Labels.{Unreached, Differing, Reached, agree, hull_states, label_with};
 ghost use Rattle.wsm_rules.specs.Rules.{Setting, fault_of};
+ghost use Rattle.wsm_verifier.specs.Places.{state_in};
 ghost use Rattle.wsm_verifier.specs.Turning.{label_kept};
 
 use crate::state::State;
@@ -55,6 +56,16 @@ impl Label {
             Kept::Differing => Kept::Differing,
             Kept::Reached(known) => joined(state, &known),
         };
+    }
+
+    /// The state that is known, where there is one.
+    pub(crate) fn state(&self) -> Option<&State>
+        ensures { option_map (λ s. s.now) result ≡ state_in self.now }
+    {
+        match &self.kept {
+            Kept::Unreached | Kept::Differing => None,
+            Kept::Reached(state) => Some(state),
+        }
     }
 
     /// The state that is known, or the rule that holds where there is none.

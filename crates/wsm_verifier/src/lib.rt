@@ -27,6 +27,7 @@
 pub use costed::Costed;
 pub use costs::needed;
 pub use judging::{verify, verify_costed};
+pub use places::{Place, column_ranges, places_in};
 pub use wsm_program::Costs;
 pub use wsm_rules::{Part, Rejection, Rule, Verified};
 
@@ -37,6 +38,7 @@ mod judging;
 mod label;
 mod pass;
 mod paths;
+mod places;
 mod ranges;
 mod reads;
 mod rules;

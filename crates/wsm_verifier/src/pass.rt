@@ -64,8 +64,8 @@ fn rejection_at(section: SectionId, place: usize, rule: Rule) -> Rejection
     }
 }
 
-// The labels of a section before anything is joined.
-fn unreached(alloc: Global, length: usize) -> Result<Vec<Label>, AllocError>
+/// The labels of a section before anything is joined.
+pub(crate) fn unreached(alloc: Global, length: usize) -> Result<Vec<Label>, AllocError>
     ensures { IfOk result (λ labels. labels.items ≡ replicate length Unreached) }
 {
     let mut labels = Vec::with_capacity(alloc, length)?;
@@ -75,9 +75,9 @@ fn unreached(alloc: Global, length: usize) -> Result<Vec<Label>, AllocError>
     Ok(labels)
 }
 
-// Judges the instruction at a place by the label that is kept for it: the rule that holds, or else
-// what it folds is noted, and what it leaves is joined to the labels of the places that come next.
-fn turn(
+/// Judges the instruction at a place by the label that is kept for it: the rule that holds, or else
+/// what it folds is noted, and what it leaves is joined to the labels of the places that come next.
+pub(crate) fn turn(
     alloc: Global,
     setting: &Setting,
     place: usize,
