@@ -1,6 +1,6 @@
 -- All numbers that are told are whole ones.
 use Rattle.std.proofs.Common.{◌≡◌, ℕ, zero, suc, Bool, true, false, ◌||◌, cond, List, [], ◌∷◌, ◌++◌, length, map, ℤ, pos, negsuc, Option, Some, None, refl}
-use Rattle.std.specs.Prelude.{option_map, take}
+use Rattle.std.specs.Prelude.{option_map, slice_index_or, take}
 use Rattle.std.specs.List.{filter}
 use Rattle.std.specs.Ordering.{int_eq}
 use Rattle.std.specs.Str.{is_utf8}
@@ -12,6 +12,7 @@ use Rattle.wsm_record.specs.Name.{reserved_words}
 use Rattle.wsm_record.specs.Schema.{FieldType, Int, Truth, Enum, DeclaredField, Declared}
 use Rattle.wsm_record.specs.declared.words.Mode.{Mode}
 use Rattle.wsm_record.specs.declared.words.Form.{Form}
+use Rattle.wsm_record.specs.declared.words.Kind.{Kind}
 use Rattle.wsm_record.specs.declared.words.CellType.{CellType}
 use Rattle.wsm_record.specs.declared.words.CellType.TheVariants as cells
 use Rattle.wsm_windows.specs.declared.window.Shape.{Shape}
@@ -20,6 +21,7 @@ use Rattle.wsm_admission.specs.declared.clock.Clock.{Clock}
 use Rattle.wsm_tokens.specs.declared.position.Position.{Position}
 use Rattle.wsm_check.specs.declared.refusal.CheckFault.{CheckFault}
 use Rattle.wsm_check.specs.declared.refusal.CheckFault.TheVariants.{Exceeds}
+use Rattle.wsm_program.specs.declared.SectionId.TheVariants.{Where, Update, Fire}
 use Rattle.wsm_program.specs.declared.program.Costs.{Costs}
 use Rattle.wsm_program.specs.Program.{Header, Program}
 use Rattle.wsm_interval.specs.declared.Interval.{Interval}
@@ -29,16 +31,18 @@ use Rattle.wsm_inputs.specs.declared.end.InputRefusal.{InputRefusal}
 use Rattle.wsm_inputs.specs.declared.end.InputRefusal.TheVariants as refusals
 use Rattle.wsm_rules.specs.Costs.{needed}
 use Rattle.wsm_rules.specs.Rules.{range}
+use Rattle.wsm_verifier.specs.declared.places.Place.{Place}
+use Rattle.wsm_verifier.specs.Places.{column_ranges, places_in}
 use Rattle.wsm_explain.specs.declared.explaining.Judgement.{Judgement}
 use Rattle.wsm_explain.specs.declared.explaining.Judgement.TheVariants.{Refused, Rejected, Accepted}
 use Rattle.wsm_explain.specs.declared.parts.Span.{Span}
 use Rattle.wsm_explain.specs.declared.ways.Way.{Way}
 use Rattle.wsm_explain.specs.Json.{or_null, text_data, whole}
-use Rattle.wsm_explain.specs.Declarations.{clock_data, field_data, firing_data, interval_data, range_data, trigger_data, type_data, typed_data, window_data}
+use Rattle.wsm_explain.specs.Declarations.{clock_data, field_data, firing_data, column_data, interval_data, range_data, trigger_data, typed_data, window_data}
 use Rattle.wsm_explain.specs.Parts.{place_of, span_data, spans_of, text_in}
 use Rattle.wsm_explain.specs.Standing.{candidates, may_stand, reserved_data, standing_data, tokens_from}
 use Rattle.wsm_explain.specs.Ways.{way_data}
-use Rattle.wsm_explain.specs.Program.{code_data, declares_data, instr_data, kind_data, output_data, program_data, ranges_data, ranges_up_to}
+use Rattle.wsm_explain.specs.Program.{bare, bare_code, code_data, code_of, columns_data, columns_up_to, declares_data, kind_data, output_data, place_data, program_data, ranges_data, ranges_up_to}
 use Rattle.wsm_explain.specs.Explained.{accepted_ranges, explained_data, fault_data, joins_data, joins_of, judged_data, limit_data, refusal_data, text_of, text_parts, text_sum_data}
 
 both : (a b : Bool) → a ≡ false → b ≡ false → (a || b) ≡ false
@@ -89,24 +93,39 @@ trigger_plain n = either_count (int_eq n (pos 0)) n
 firing_plain : (mode : Mode) (early late : ℤ) (form : Form) → has_float (firing_data mode early late form) ≡ false
 firing_plain mode early late form = both _ _ (trigger_plain early) (both _ _ (trigger_plain late) refl)
 
-type_plain : (t : CellType) → has_float (type_data t) ≡ false
-type_plain cells.Int = refl
-type_plain cells.Bool = refl
-type_plain (cells.Enum e) = refl
+maybe_plain : (x : Option Interval) → has_float (or_null interval_data x) ≡ false
+maybe_plain None = refl
+maybe_plain (Some x) = range_plain x.lo x.hi
 
-code_plain : (p : Program) → has_float (code_data p) ≡ false
-code_plain p =
-    both _ _ (listed kind_data (λ k. refl) p.header.kinds)
-    (both _ _ (listed instr_data (λ i. refl) p.fire) (both _ _ (listed instr_data (λ i. refl) p.update) (both _ _ (listed instr_data (λ i. refl) p.selection) refl)))
+column_plain : (t : CellType) (x : Option Interval) → has_float (column_data t x) ≡ false
+column_plain cells.Int x = both _ _ (maybe_plain x) refl
+column_plain cells.Bool x = refl
+column_plain (cells.Enum e) x = refl
+
+one_more : (ds : List Data) (d : Data) → items_have_float (items_of ds) ≡ false → has_float d ≡ false → items_have_float (items_of (ds ++ d ∷ [])) ≡ false
+one_more [] d all one = both _ _ one refl
+one_more (e ∷ ds) d all one = both _ _ (or_left (has_float e) _ all) (one_more ds d (or_right (has_float e) _ all) one)
+
+columns_plain : (ts : List CellType) (xs : List (Option Interval)) (n : ℕ) → items_have_float (items_of (columns_up_to ts xs n)) ≡ false
+columns_plain ts xs zero = refl
+columns_plain ts xs (suc n) = one_more (columns_up_to ts xs n) _ (columns_plain ts xs n) (column_plain (slice_index_or ts n cells.Int) (slice_index_or xs n None))
+
+place_plain : (x : Place) → has_float (place_data x) ≡ false
+place_plain x = both _ _ (maybe_plain x.number) refl
+
+code_plain : (kinds : List Kind) (fire update selection : List Place) → has_float (code_of kinds fire update selection) ≡ false
+code_plain kinds fire update selection =
+    both _ _ (listed kind_data (λ k. refl) kinds)
+    (both _ _ (listed place_data place_plain fire) (both _ _ (listed place_data place_plain update) (both _ _ (listed place_data place_plain selection) refl)))
 
 declares_plain : (d : Declared) → has_float (declares_data d) ≡ false
 declares_plain d = both _ _ (listed field_data field_plain d.fields) (both _ _ (listed text_data text_plain d.keys) (both _ _ (listed text_data text_plain d.sources) refl))
 
-output_plain : (h : Header) → has_float (output_data h) ≡ false
-output_plain h = both _ _ (listed type_data type_plain h.columns) (both _ _ (firing_plain h.mode h.early h.late h.form) (both _ _ (window_plain h.shape) refl))
+output_plain : (h : Header) (columns : Data) → has_float columns ≡ false → has_float (output_data h columns) ≡ false
+output_plain h columns e = both _ _ e (both _ _ (firing_plain h.mode h.early h.late h.form) (both _ _ (window_plain h.shape) refl))
 
-program_plain : (p : Program) (needs : Costs) → has_float (program_data p needs) ≡ false
-program_plain p needs = both _ _ (clock_plain p.header.clock) (both _ _ (code_plain p) (both _ _ (declares_plain p.header.schema) (both _ _ (output_plain p.header) refl)))
+program_plain : (p : Program) (needs : Costs) (code columns : Data) → has_float code ≡ false → has_float columns ≡ false → has_float (program_data p needs code columns) ≡ false
+program_plain p needs code columns c e = both _ _ (clock_plain p.header.clock) (both _ _ c (both _ _ (declares_plain p.header.schema) (both _ _ (output_plain p.header columns e) refl)))
 
 span_plain : (text : List ℕ) (s : Span) → has_float (span_data text s) ≡ false
 span_plain text s = both _ _ (text_plain (text_in text s)) refl
@@ -147,16 +166,12 @@ joins_plain (Accepted p ways) = ways_plain (option_map (λ v. v.items) ways)
 
 judged_plain : (j : Judgement) → has_float (judged_data j) ≡ false
 judged_plain (Refused why) = refl
-judged_plain (Rejected p why ways) = program_plain p (needed p)
-judged_plain (Accepted p ways) = program_plain p (needed p)
-
-maybe_plain : (x : Option Interval) → has_float (or_null interval_data x) ≡ false
-maybe_plain None = refl
-maybe_plain (Some x) = range_plain x.lo x.hi
-
-one_more : (ds : List Data) (d : Data) → items_have_float (items_of ds) ≡ false → has_float d ≡ false → items_have_float (items_of (ds ++ d ∷ [])) ≡ false
-one_more [] d all one = both _ _ one refl
-one_more (e ∷ ds) d all one = both _ _ (or_left (has_float e) _ all) (one_more ds d (or_right (has_float e) _ all) one)
+judged_plain (Rejected p why ways) =
+    program_plain p (needed p) (bare_code p) (columns_data p.header.columns []) (code_plain p.header.kinds (map bare p.fire) (map bare p.update) (map bare p.selection))
+    (columns_plain p.header.columns [] (length p.header.columns))
+judged_plain (Accepted p ways) =
+    program_plain p (needed p) (code_data p) (columns_data p.header.columns (column_ranges p)) (code_plain p.header.kinds (places_in p Fire) (places_in p Update) (places_in p Where))
+    (columns_plain p.header.columns (column_ranges p) (length p.header.columns))
 
 ranges_plain : (p : Program) (n : ℕ) → items_have_float (items_of (ranges_up_to p n)) ≡ false
 ranges_plain p zero = refl

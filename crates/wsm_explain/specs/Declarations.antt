@@ -1,5 +1,5 @@
 -- What a program declares, as JSON. Members stand in the order of their names.
-use Rattle.std.specs.Prelude.{ℕ, List, ℤ, pos, cond, codes}
+use Rattle.std.specs.Prelude.{ℕ, List, ℤ, pos, cond, codes, Option}
 use Rattle.std.specs.Ordering.{int_eq}
 use Rattle.serde_json.specs.Data.{Data, null, boolean, string, object, member, no_members}
 use Rattle.wsm_record.specs.Schema.{FieldType, Int, Truth, Enum, DeclaredField}
@@ -13,7 +13,7 @@ use Rattle.wsm_admission.specs.declared.clock.Clock.{Clock}
 use Rattle.wsm_interval.specs.declared.Interval.{Interval}
 use Rattle.wsm_program.specs.declared.program.Costs.{Costs}
 use Rattle.wsm_query.specs.Print.{form_word, mode_word}
-use Rattle.wsm_explain.specs.Json.{text_data, natural, whole, list_data}
+use Rattle.wsm_explain.specs.Json.{text_data, natural, or_null, whole, list_data}
 
 -- both ends are inside
 abbrev pub range_data : ℤ → ℤ → Data
@@ -73,11 +73,11 @@ firing_data mode early late form =
     (member (codes "late") (trigger_data late)
     (member (codes "mode") (string (mode_word mode)) no_members))))
 
--- ENUM 0 is the keys, f + 1 the names of field f
-abbrev pub type_data : CellType → Data
-type_data cells.Int = object (member (codes "type") (string (codes "INT")) no_members)
-type_data cells.Bool = object (member (codes "type") (string (codes "BOOL")) no_members)
-type_data (cells.Enum e) = object (member (codes "enum") (natural e) (member (codes "type") (string (codes "ENUM")) no_members))
+-- A column of a type, with its range where it is one of numbers; null where that isn't known. ENUM 0 is the keys, f + 1 the names of field f.
+abbrev pub column_data : CellType → Option Interval → Data
+column_data cells.Int range = object (member (codes "range") (or_null interval_data range) (member (codes "type") (string (codes "INT")) no_members))
+column_data cells.Bool range = object (member (codes "type") (string (codes "BOOL")) no_members)
+column_data (cells.Enum e) range = object (member (codes "enum") (natural e) (member (codes "type") (string (codes "ENUM")) no_members))
 
 abbrev pub costs_data : Costs → Data
 costs_data c =

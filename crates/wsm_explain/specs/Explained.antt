@@ -28,7 +28,7 @@ use Rattle.wsm_explain.specs.declared.ways.Way.{Way}
 use Rattle.wsm_explain.specs.Json.{natural, or_null, list_data}
 use Rattle.wsm_explain.specs.Limits.{limits_data}
 use Rattle.wsm_explain.specs.Parts.{parts_data, place_of}
-use Rattle.wsm_explain.specs.Program.{program_data, ranges_data}
+use Rattle.wsm_explain.specs.Program.{accepted_data, ranges_data, rejected_data}
 use Rattle.wsm_explain.specs.Standing.{length_at, reserved_data, standing_data, tokens_from}
 use Rattle.wsm_explain.specs.Sums.{text_sum}
 use Rattle.wsm_explain.specs.Ways.{way_data, way_of}
@@ -111,13 +111,10 @@ fault_data i (Refused why) = refusal_data (text_of i) why
 fault_data i (Rejected p why ways) = rejection_data why
 fault_data i (Accepted p ways) = null
 
-abbrev pub needs_data : Program → Data
-needs_data p = program_data p (needed p)
-
 abbrev pub judged_data : Judgement → Data
 judged_data (Refused why) = null
-judged_data (Rejected p why ways) = needs_data p
-judged_data (Accepted p ways) = needs_data p
+judged_data (Rejected p why ways) = rejected_data p
+judged_data (Accepted p ways) = accepted_data p
 
 abbrev pub joins_of : Option (List Way) → Data
 joins_of ways = or_null (list_data way_data) ways
@@ -147,7 +144,7 @@ text_sum_data (input.Program bytes) = null
 
 -- the version of this form
 abbrev pub version : ℕ
-version = 3
+version = 4
 
 abbrev pub explained_data : Input → Judgement → Data
 explained_data i j =

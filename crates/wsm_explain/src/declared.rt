@@ -4,8 +4,8 @@ ghost use Rattle.std.specs.Prelude.{◌≡◌, IfOk, map};
 ghost use Rattle.serde_json.specs.View.{view};
 ghost use Rattle.wsm_record.specs.Fields.{field_seen};
 ghost use Rattle.wsm_query.specs.Print as rule;
-ghost use Rattle.wsm_explain.specs.Json.{list_data};
-ghost use Rattle.wsm_explain.specs.Declarations.{clock_data, costs_data, field_data, firing_data, interval_data, range_data, trigger_data, type_data, window_data};
+ghost use Rattle.wsm_explain.specs.Json.{list_data, or_null};
+ghost use Rattle.wsm_explain.specs.Declarations.{clock_data, column_data, costs_data, field_data, firing_data, interval_data, range_data, trigger_data, window_data};
 
 use crate::texts::{names_value, text_value};
 use serde_json::{Value, json};
@@ -50,8 +50,18 @@ fn range_value(alloc: Global, least: i64, greatest: i64) -> Result<Value, AllocE
     json!(in alloc; {"greatest": greatest, "least": least})
 }
 
-/// The numbers from one end of an interval to the other.
-pub fn interval_value(alloc: Global, interval: Interval) -> Result<Value, AllocError>
+/// An interval, where there is one.
+pub fn maybe_interval(alloc: Global, range: Option<Interval>) -> Result<Value, AllocError>
+    ensures { IfOk result (λ v. view v ≡ or_null interval_data range) }
+{
+    match range {
+        Some(interval) => interval_value(alloc, interval),
+        None => Ok(Value::Null),
+    }
+}
+
+// The numbers from one end of an interval to the other.
+fn interval_value(alloc: Global, interval: Interval) -> Result<Value, AllocError>
     ensures { IfOk result (λ v. view v ≡ interval_data interval) }
 {
     range_value(alloc, interval.lo, interval.hi)
@@ -133,12 +143,19 @@ fn form_word(form: Form) -> &'static str
     }
 }
 
-/// The type of a column.
-pub fn type_value(alloc: Global, ty: &CellType) -> Result<Value, AllocError>
-    ensures { IfOk result (λ v. view v ≡ type_data ty.now) }
+/// A column of a type, with the range of one of numbers, where that is known.
+pub fn column_value(
+    alloc: Global,
+    ty: CellType,
+    range: Option<Interval>,
+) -> Result<Value, AllocError>
+    ensures { IfOk result (λ v. view v ≡ column_data ty range) }
 {
-    match *ty {
-        CellType::Int => json!(in alloc; {"type": "INT"}),
+    match ty {
+        CellType::Int => {
+            let range = maybe_interval(alloc, range)?;
+            json!(in alloc; {"range": range, "type": "INT"})
+        }
         CellType::Bool => json!(in alloc; {"type": "BOOL"}),
         CellType::Enum(number) => json!(in alloc; {"enum": number, "type": "ENUM"}),
     }

@@ -8,7 +8,7 @@ ghost use Rattle.wsm_explain.specs.Explained as spec;
 
 use crate::limits::limits_value;
 use crate::parts::{front, parts_value};
-use crate::program::{program_value, ranges_value};
+use crate::program::{accepted_value, ranges_value, rejected_value};
 use crate::standing::{reserved_value, spot_at, standing_value};
 use crate::sums::text_sum;
 use crate::ways::{Way, ways_of, ways_value};
@@ -20,10 +20,10 @@ use wsm_program::Program;
 use wsm_query::parse;
 use wsm_rules::{Rejection, Rule, Verified};
 use wsm_tokens::{ParseRefusal, Position};
-use wsm_verifier::{Costed, needed, verify_costed};
+use wsm_verifier::{Costed, verify_costed};
 
 /// The version of what is told.
-const VERSION: u32 = 3;
+const VERSION: u32 = 4;
 
 /// What is found of an input.
 #[derive(Drop)]
@@ -175,13 +175,8 @@ fn judged_value(alloc: Global, judgement: &Judgement) -> Result<Value, AllocErro
 {
     match judgement {
         Judgement::Refused(_) => Ok(Value::Null),
-        Judgement::Rejected { program, .. } => {
-            let needs = needed(alloc, program)?;
-            program_value(alloc, program, needs)
-        }
-        Judgement::Accepted { program, .. } => {
-            program_value(alloc, program.program(), program.costs())
-        }
+        Judgement::Rejected { program, .. } => rejected_value(alloc, program),
+        Judgement::Accepted { program, .. } => accepted_value(alloc, program),
     }
 }
 

@@ -1,6 +1,6 @@
 //! A program and what it needs, as JSON.
 
-ghost use Rattle.std.specs.Prelude.{◌≡◌, ◌≤◌, IfOk, map};
+ghost use Rattle.std.specs.Prelude.{◌≡◌, ◌≤◌, IfOk, None, map, slice_index_or};
 ghost use Rattle.serde_json.specs.View.{view};
 ghost use Rattle.wsm_program.specs.View.{header_of};
 ghost use Rattle.wsm_query.specs.Print as rule;
@@ -8,11 +8,12 @@ ghost use Rattle.wsm_sums.specs.Crc.{sum_of};
 ghost use Rattle.wsm_bytecode.specs.Spelling.{spelling};
 ghost use Rattle.wsm_record.specs.declared.limits.TheConstants.{MAX_ACCUMULATORS};
 ghost use Rattle.wsm_explain.specs.Json.{list_data, or_null};
-ghost use Rattle.wsm_explain.specs.Declarations.{interval_data, type_data};
+ghost use Rattle.wsm_explain.specs.Declarations.{interval_data};
 ghost use Rattle.wsm_explain.specs.Program as spec;
 
 use crate::declared::{
-    clock_value, costs_value, fields_value, firing_value, interval_value, type_value, window_value,
+    clock_value, column_value, costs_value, fields_value, firing_value, maybe_interval,
+    window_value,
 };
 use crate::texts::names_value;
 use serde_json::{Value, json};
@@ -23,17 +24,42 @@ use wsm_program::{CellType, Costs, Header, Instr, Program, SectionId};
 use wsm_record::{Kind, Schema};
 use wsm_rules::Verified;
 use wsm_sums::Crc32;
+use wsm_verifier::{Place, column_ranges, needed, places_in};
 
-/// A program, with what it needs.
-pub fn program_value(alloc: Global, program: &Program, needs: Costs) -> Result<Value, AllocError>
-    ensures { IfOk result (λ v. view v ≡ spec.program_data program.now needs) }
+/// A program that is accepted, with what it needs and what is known of its numbers.
+pub fn accepted_value(alloc: Global, program: &Verified) -> Result<Value, AllocError>
+    ensures { IfOk result (λ v. view v ≡ spec.accepted_data program.now) }
+{
+    let code = code_value(alloc, program)?;
+    let ranges = column_ranges(alloc, program)?;
+    let columns = columns_value(alloc, &program.program().header().columns, &ranges)?;
+    program_value(alloc, program.program(), program.costs(), code, columns)
+}
+
+/// The same of one that is rejected, of whose numbers nothing is known.
+pub fn rejected_value(alloc: Global, program: &Program) -> Result<Value, AllocError>
+    ensures { IfOk result (λ v. view v ≡ spec.rejected_data program.now) }
+{
+    let code = bare_code_value(alloc, program)?;
+    let columns = columns_value(alloc, &program.header().columns, &[])?;
+    let needs = needed(alloc, program)?;
+    program_value(alloc, program, needs, code, columns)
+}
+
+fn program_value(
+    alloc: Global,
+    program: &Program,
+    needs: Costs,
+    code: Value,
+    columns: Value,
+) -> Result<Value, AllocError>
+    ensures { IfOk result (λ v. view v ≡ spec.program_data program.now needs (view code) (view columns)) }
 {
     let header = program.header();
     let clock = clock_value(alloc, &header.clock)?;
-    let code = code_value(alloc, program)?;
     let costs = both_value(alloc, needs, header.budget)?;
     let declares = declares_value(alloc, &header.schema)?;
-    let output = output_value(alloc, header)?;
+    let output = output_value(alloc, header, columns)?;
     let sum = program_sum(alloc, program)?;
     json!(in alloc; {
         "clock": clock,
@@ -64,15 +90,6 @@ fn ranges_up_to(alloc: Global, program: &Verified, count: usize) -> Result<Vec<V
     Ok(list)
 }
 
-fn maybe_interval(alloc: Global, range: Option<Interval>) -> Result<Value, AllocError>
-    ensures { IfOk result (λ v. view v ≡ or_null interval_data range) }
-{
-    match range {
-        Some(interval) => interval_value(alloc, interval),
-        None => Ok(Value::Null),
-    }
-}
-
 // The sum of a program's bytes in the version that is written.
 fn program_sum(alloc: Global, program: &Program) -> Result<u32, AllocError>
     ensures { IfOk result (λ sum. sum ≡ sum_of (spelling program.now)) }
@@ -100,33 +117,86 @@ fn declares_value(alloc: Global, schema: &Schema) -> Result<Value, AllocError>
     json!(in alloc; {"fields": fields, "keys": keys, "sources": sources})
 }
 
-fn output_value(alloc: Global, header: &Header) -> Result<Value, AllocError>
-    ensures { IfOk result (λ v. view v ≡ spec.output_data (header_of header.now)) }
+fn output_value(alloc: Global, header: &Header, columns: Value) -> Result<Value, AllocError>
+    ensures { IfOk result (λ v. view v ≡ spec.output_data (header_of header.now) (view columns)) }
 {
-    let columns = types_value(alloc, &header.columns)?;
     let firing = firing_value(alloc, header.mode, header.early, header.late, header.form)?;
     let window = window_value(alloc, header.shape)?;
     json!(in alloc; {"columns": columns, "firing": firing, "window": window})
 }
 
-fn types_value(alloc: Global, columns: &[CellType]) -> Result<Value, AllocError>
-    ensures { IfOk result (λ v. view v ≡ list_data type_data columns.now) }
+// The columns, with those of their ranges that are known.
+fn columns_value(
+    alloc: Global,
+    columns: &[CellType],
+    ranges: &[Option<Interval>],
+) -> Result<Value, AllocError>
+    ensures { IfOk result (λ v. view v ≡ spec.columns_data columns.now ranges.now) }
 {
     let mut list = Vec::with_capacity(alloc, columns.len())?;
-    for column in columns {
-        list.push(type_value(alloc, column)?)?;
+    for place in 0..columns.len() {
+        list.push(column_value(alloc, columns[place], range_at(ranges, place))?)?;
     }
     Ok(Value::from(list))
 }
 
-// The instructions of each section, and how the accumulators fold that they name.
-fn code_value(alloc: Global, program: &Program) -> Result<Value, AllocError>
+fn range_at(ranges: &[Option<Interval>], place: usize) -> Option<Interval>
+    ensures { result ≡ slice_index_or ranges.now place None }
+{
+    ranges.get(place).copied().unwrap_or(None)
+}
+
+// The instructions of an accepted program, with the intervals of the numbers that they push.
+fn code_value(alloc: Global, program: &Verified) -> Result<Value, AllocError>
     ensures { IfOk result (λ v. view v ≡ spec.code_data program.now) }
 {
-    let accumulators = kinds_value(alloc, &program.header().kinds)?;
-    let fire = section_value(alloc, program.section(SectionId::Fire))?;
-    let update = section_value(alloc, program.section(SectionId::Update))?;
-    let selection = section_value(alloc, program.section(SectionId::Where))?;
+    let fire = places_in(alloc, program, SectionId::Fire)?;
+    let update = places_in(alloc, program, SectionId::Update)?;
+    let selection = places_in(alloc, program, SectionId::Where)?;
+    let kinds = &program.program().header().kinds;
+    sections_value(alloc, kinds, &fire, &update, &selection)
+}
+
+// The instructions of another program.
+fn bare_code_value(alloc: Global, program: &Program) -> Result<Value, AllocError>
+    ensures { IfOk result (λ v. view v ≡ spec.bare_code program.now) }
+{
+    let fire = bare_places(alloc, program.section(SectionId::Fire))?;
+    let update = bare_places(alloc, program.section(SectionId::Update))?;
+    let selection = bare_places(alloc, program.section(SectionId::Where))?;
+    let kinds = &program.header().kinds;
+    sections_value(alloc, kinds, &fire, &update, &selection)
+}
+
+fn bare_places(alloc: Global, code: &[Instr]) -> Result<Vec<Place>, AllocError>
+    ensures { IfOk result (λ places. places.items ≡ map spec.bare code.now) }
+{
+    code.iter().map(|instr| bare(*instr)).collect(alloc)
+}
+
+fn bare(instr: Instr) -> Place
+    ensures { result ≡ spec.bare instr }
+{
+    Place {
+        instr,
+        number: None,
+    }
+}
+
+// The places of each section, and how the accumulators fold that they name.
+fn sections_value(
+    alloc: Global,
+    kinds: &[Kind],
+    fire: &[Place],
+    update: &[Place],
+    selection: &[Place],
+) -> Result<Value, AllocError>
+    ensures { IfOk result (λ v. view v ≡ spec.code_of kinds.now fire.now update.now selection.now) }
+{
+    let accumulators = kinds_value(alloc, kinds)?;
+    let fire = section_value(alloc, fire)?;
+    let update = section_value(alloc, update)?;
+    let selection = section_value(alloc, selection)?;
     json!(in alloc; {
         "accumulators": accumulators,
         "fire": fire,
@@ -163,19 +233,20 @@ fn kind_word(kind: Kind) -> &'static str
     }
 }
 
-fn section_value(alloc: Global, code: &[Instr]) -> Result<Value, AllocError>
-    ensures { IfOk result (λ v. view v ≡ spec.section_data code.now) }
+fn section_value(alloc: Global, places: &[Place]) -> Result<Value, AllocError>
+    ensures { IfOk result (λ v. view v ≡ list_data spec.place_data places.now) }
 {
-    let mut list = Vec::with_capacity(alloc, code.len())?;
-    for instr in code {
-        list.push(instr_value(alloc, instr)?)?;
+    let mut list = Vec::with_capacity(alloc, places.len())?;
+    for place in places {
+        list.push(place_value(alloc, place)?)?;
     }
     Ok(Value::from(list))
 }
 
-fn instr_value(alloc: Global, instr: &Instr) -> Result<Value, AllocError>
-    ensures { IfOk result (λ v. view v ≡ spec.instr_data instr.now) }
+fn place_value(alloc: Global, place: &Place) -> Result<Value, AllocError>
+    ensures { IfOk result (λ v. view v ≡ spec.place_data place.now) }
 {
-    let text = format!(in alloc; "{instr}")?;
-    Ok(Value::from(text))
+    let range = maybe_interval(alloc, place.number)?;
+    let text = format!(in alloc; "{}", place.instr)?;
+    json!(in alloc; {"range": range, "text": text})
 }

@@ -1,8 +1,8 @@
-use Rattle.std.proofs.Common.{◌≡◌, map, take}
+use Rattle.std.proofs.Common.{◌≡◌, map}
 use Rattle.serde_json.specs.View.{view}
-use Rattle.wsm_explain.specs.Declarations.{type_data}
-use Rattle.wsm_explain.proofs.program.types_value.Given as goal
+use Rattle.wsm_explain.specs.Program.{columns_up_to}
+use Rattle.wsm_explain.proofs.program.columns_value.Given as goal
 
--- the values so far
-abbrev pub invariant-loop-column : goal.invariant-loop-column
-invariant-loop-column l = map view l.list.items ≡ map type_data (take l.column-index l.columns)
+-- those so far
+abbrev pub invariant-loop-place : goal.invariant-loop-place
+invariant-loop-place l = map view l.list.items ≡ columns_up_to l.columns l.ranges l.place
