@@ -1,3 +1,5 @@
+mod Counts
+mod Fed
 pub mod EngineTurns
 pub mod Within
 pub mod RecordsByPlan

@@ -1,4 +1,5 @@
 pub mod State
+pub mod Counts
 pub mod Meaning
 pub mod Turn
 pub mod Operator

@@ -1,8 +1,9 @@
 -- What an engine means: how it fits a history, and what it answers to the next event.
-use Rattle.std.specs.Prelude.{◌≡◌, ◌≤◌, ◌+◌, Bool, true, false, List, [], ◌∷◌, map, length, sum, IfSome}
+use Rattle.std.specs.Prelude.{◌≡◌, ◌≤◌, ◌+◌, Bool, true, false, List, [], ◌∷◌, map, length, sum, IfSome, Result}
 use Rattle.wsm_record.specs.declared.words.Form.{Form}
 use Rattle.wsm_record.specs.declared.words.Form.TheVariants as form
 use Rattle.wsm_record.specs.Event.{Event}
+use Rattle.wsm_admission.specs.declared.verdict.Admitted.{Admitted}
 use Rattle.wsm_admission.specs.declared.verdict.Refusal.{Refusal}
 use Rattle.wsm_admission.specs.declared.verdict.Refusal.TheVariants as refusal
 use Rattle.wsm_admission.specs.Clock.{admitted_count, late_count, refused_count}
@@ -72,6 +73,10 @@ counted _ s = record s { refused = counter (s.refused + 1) }
 abbrev pub refused_state : State → Refusal → State
 refused_state s r = record s { machine = record s.machine { admission = counted r s.machine.admission; fed = counter (s.machine.fed + 1) }; rows = [] }
 
+-- the answer to an event, by what an engine keeps
+abbrev pub answer_by : State → Event → Result Admitted Refusal
+answer_by s e = admission.decision s.program.header.shape s.program.header.schema s.machine.admission e
+
 -- an engine takes an event: what it keeps then fits the history with the event in front, and its reply
 -- and its rows are the definition's for that history
 pub record Feeds (old new : State) (e : Event) (result : Reply) : Type 0 where
@@ -80,6 +85,7 @@ pub record Feeds (old new : State) (e : Event) (result : Reply) : Type 0 where
   pub reply : (past : List Event) → Fits old past → result ≡ reply_to old.program past e
   pub rows : (past : List Event) → Fits old past → new.rows ≡ turn_rows (query_of old.program) past e
   pub room : new.room ≡ old.room
+  pub admission : new.machine.admission ≡ admission.after (answer_by old e) e old.machine.admission
   pub refused : IfSome result.refusal (λ r. new ≡ refused_state old r)
   pub record_within : result.record_steps ≤ old.program.header.budget.per_record
   pub pane_within : result.pane_steps_max ≤ old.program.header.budget.per_pane

@@ -3,6 +3,7 @@
 ghost use Rattle.std.specs.Prelude.{◌≡◌, ◌≤◌, List, [], ◌∷◌, length, Ok, IfOk, IfErr, IfSome, IsTrue};
 ghost use Rattle.wsm_record.specs.Event.{Event as AnyEvent, event_of};
 ghost use Rattle.wsm_admission.specs.Clock.{fits_declared};
+ghost use Rattle.wsm_admission.specs.declared.verdict.Admitted.TheVariants.{Record};
 ghost use Rattle.wsm_semantics.specs.Panes.{held};
 ghost use Rattle.wsm_semantics.specs.Query.{mark};
 ghost use Rattle.wsm_semantics.specs.Relation.{turn_rows};
@@ -10,15 +11,17 @@ ghost use Rattle.wsm_program.specs.Program.{is_program};
 ghost use Rattle.wsm_rules.specs.Costs.{needed};
 ghost use Rattle.wsm_rules.specs.Rules.{judge};
 ghost use Rattle.wsm_machine.specs.Meaning.{query_of};
-ghost use Rattle.wsm_engine.specs.Meaning.{Feeds, Fits, refused_state, reply_to, totals_of};
+ghost use Rattle.wsm_engine.specs.Counts.{IsKnown};
+ghost use Rattle.wsm_engine.specs.Meaning.{Feeds, Fits, answer_by, refused_state, reply_to, totals_of};
 ghost use Rattle.wsm_engine.specs.Turn.{turn, reply_by, refusal_of as spec_refusal_of};
 
 use crate::acting::act;
+use crate::deciding::{Decider, Known};
 use crate::opening::open_operator;
 use crate::reply::Reply;
 use std::alloc::Global;
 use std::marker::Model;
-use wsm_admission::{Admission, Admitted, Refusal, has_fitting_values};
+use wsm_admission::{Admitted, Refusal, has_fitting_values};
 use wsm_firing::WindowOperator;
 use wsm_program::Program;
 use wsm_record::{Event, Schema};
@@ -29,7 +32,7 @@ use wsm_semantics::{OutRow, Totals};
 #[derive(Drop)]
 pub struct Engine {
     verified: Verified,
-    admission: Admission,
+    admission: Decider,
     operator: WindowOperator,
     fed: u64,
     fired: u64,
@@ -70,7 +73,7 @@ impl Engine {
             return Err(OpenRefusal::Memory(verified));
         };
         let header = verified.program().header();
-        let admission = Admission::new(header.clock, &header.schema);
+        let admission = Decider::new(header.clock, &header.schema);
         Ok(Engine {
             verified,
             admission,
@@ -104,7 +107,16 @@ impl Engine {
         requires { values_fit ≡ fits_declared self.old.program.header.schema (event_of event.now) }
         ensures { Feeds self.old self.new (event_of event.now) result }
     {
-        self.turn(event, values_fit)
+        self.turn(event, Known::Values(values_fit))
+    }
+
+    /// Takes a record, as [`feed_judged`](Engine::feed_judged) does and with all that its contract says, where it is known that no rule
+    /// refuses it, as by one who goes by the same marks: then none is looked at.
+    pub fn feed_admitted(&mut self, event: &Event) -> Reply
+        requires { answer_by self.old (event_of event.now) ≡ Ok Record }
+        ensures { Feeds self.old self.new (event_of event.now) result }
+    {
+        self.turn(event, Known::Taken)
     }
 
     /// The rows of the last event, in order.
@@ -164,8 +176,8 @@ impl Engine {
     }
 
     // The turn of an event, as a step of the machine that keeps a summary for each held pane.
-    fn turn(&mut self, event: &Event, values_fit: bool) -> Reply
-        requires { values_fit ≡ fits_declared self.old.program.header.schema (event_of event.now) }
+    fn turn(&mut self, event: &Event, known: Known) -> Reply
+        requires { IsKnown self.old.program.header.shape self.old.program.header.schema self.old.machine.admission (event_of event.now) known }
         ensures judged { judge self.old.program ≡ Ok (needed self.old.program) }
         ensures lawful { IsTrue (is_program self.old.program) }
         ensures history { (past : List AnyEvent) × Fits self.old past }
@@ -177,7 +189,7 @@ impl Engine {
         let header = self.verified.program().header();
         let answer = self
             .admission
-            .decide_judged(&header.schema, &header.shape, event, values_fit);
+            .decide(&header.schema, &header.shape, event, known);
         let done = act(&mut self.operator, &self.verified, mark, answer, event);
         self.fed = self.fed.saturating_add(1);
         self.fired = self.fired.saturating_add(done.tally.fired);

@@ -59,6 +59,7 @@ pub use reply::Reply;
 pub use wsm_semantics::Totals;
 
 mod acting;
+mod deciding;
 mod engine;
 pub mod laws;
 mod opening;
