@@ -57,7 +57,7 @@ module _ (olds slots : List (Option EngineState)) (e : Event) (i : ℕ) (new : O
 
 -- a part without an engine takes it
 none_feeds : (e : Event) → Feeds None None e 0
-none_feeds e = record { of = λ p is. is; none = λ is. is; fits = λ fed is. is; rows = λ fed is. refl; fired = λ fed is. refl }
+none_feeds e = record { of = λ p is. is; none = λ is. is; fits = λ fed is. is; admission = refl; rows = λ fed is. refl; fired = λ fed is. refl }
 
 -- all took it
 pub all_took : (olds slots : List (Option EngineState)) (e : Event) (i fired : ℕ) → length olds ≡ i

@@ -1,6 +1,7 @@
 mod Arranged
 mod FedSlots
 mod Feeding
+mod Following
 mod Openers
 mod Parted
 mod PlacedRows

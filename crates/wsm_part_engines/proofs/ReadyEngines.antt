@@ -5,7 +5,6 @@ use Rattle.std.proofs.lemmas.List.{get_or_past}
 use Rattle.std.specs.Prelude.{Bool, ℤ, IsTrue}
 use Rattle.std.specs.List.{AllByRecursion}
 use Rattle.wsm_record.specs.Event.{Event, Record, Watermark}
-use Rattle.wsm_admission.specs.Clock.{fits_declared}
 use Rattle.wsm_semantics.specs.declared.out_row.OutRow.{OutRow}
 use Rattle.wsm_semantics.specs.Firings.{firings}
 use Rattle.wsm_semantics.specs.Query.{effect_of}
@@ -19,7 +18,7 @@ use Rattle.wsm_engine.specs.Meaning.{Fits as EngineFits, selects_record}
 use Rattle.wsm_key_parts.specs.OpenedLate.{openers}
 use Rattle.wsm_key_parts.specs.Parts.{fed_before}
 use Rattle.wsm_part_engines.specs.Fits.{engine_at, IsFed}
-use Rattle.wsm_part_engines.specs.Slots.{AreOf, IsOf, IsJudged, Feeds, FeedsAll, FeedsOne, Holds, Opens, fed_with, fired_on, rows_of, rows_on, selected_on}
+use Rattle.wsm_part_engines.specs.Slots.{AreOf, IsOf, Feeds, FeedsAll, FeedsOne, Holds, Opens, fed_with, fired_on, rows_of, rows_on, selected_on}
 use Rattle.wsm_part_engines.specs.Ordered.{IsRow, places_from, all_places, are_of_one, arranged, in_row_order}
 use Rattle.wsm_part_engines.specs.Takes.{Took}
 use Rattle.wsm_part_engines.proofs.RowPlaces.{all_ordered}
@@ -60,11 +59,6 @@ pub all_of : (p : Program) (olds news : List (Option EngineState)) (e : Event) (
 all_of p olds news e panes of fed part = (fed.each part).1.of p (of part)
 
 module _ (p : Program) (bytes : List ℕ) (marks : List ℤ) (part : ℕ) (olds mids : List (Option EngineState)) (opens : Opens bytes marks part olds mids) where
-  -- which engine a part has that is opened
-  has_engine : (slot : Option EngineState) → engine_at olds part ≡ slot → (s : EngineState) × (engine_at mids part ≡ Some s)
-  has_engine None is = let there = opens.opened is in (there.0, there.1)
-  has_engine (Some s) is = (s, opens.kept s is)
-
   pub mids_of : IsTrue (is_program p) → bytes ≡ spelling p → AreOf p olds → AreOf p mids
   mids_of lawful spelled of other =
       elim (cases_lt other part) [
@@ -81,12 +75,6 @@ module _ (p : Program) (bytes : List ℕ) (marks : List ℤ) (part : ℕ) (olds 
       here : (slot : Option EngineState) → engine_at olds part ≡ slot → IsOf p (engine_at mids part)
       here None is = let there = opens.opened is in subst (IsOf p) (sym there.1) (there.2.program p lawful spelled)
       here (Some s) is = subst (IsOf p) (sym (opens.kept s is)) (subst (IsOf p) is (of part))
-
-  pub judged : (fit : Bool) (e : Event) → IsTrue (is_program p) → bytes ≡ spelling p → AreOf p olds → fit ≡ fits_declared p.header.schema e → IsJudged fit e (engine_at mids part)
-  judged fit e lawful spelled of is =
-      let there = has_engine (engine_at olds part) refl in
-      let own : there.0.program ≡ p = subst (IsOf p) there.1 (mids_of lawful spelled of part) in
-      subst (IsJudged fit e) (sym there.1) (is ∙ ap (λ (q : Program). fits_declared q.header.schema e) (sym own))
 
 pub one_of : (p : Program) (part : ℕ) (mids news : List (Option EngineState)) (e : Event) (panes : ℕ) → AreOf p mids → FeedsOne part mids news e panes → AreOf p news
 one_of p part mids news e panes of fed other =

@@ -1,5 +1,6 @@
 pub mod Answers
 pub mod Fits
+pub mod Follows
 pub mod Ordered
 pub mod Ready
 pub mod Slots

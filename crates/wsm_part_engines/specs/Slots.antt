@@ -1,8 +1,10 @@
 -- What an event does to the engines of parts that are fed it.
-use Rattle.std.specs.Prelude.{◌≡◌, ◌≢◌, ℕ, ◌+◌, ℤ, Bool, false, List, [], ◌∷◌, length, Option, Some, None, IsTrue}
+use Rattle.std.specs.Prelude.{◌≡◌, ◌≢◌, ℕ, ◌+◌, ◌≤◌, ℤ, Bool, false, List, [], ◌∷◌, length, Option, Some, None, Ok, IsTrue}
 use Rattle.std.specs.List.{range_with_len, sum_by}
 use Rattle.wsm_record.specs.Event.{Event}
 use Rattle.wsm_admission.specs.Clock.{fits_declared}
+use Rattle.wsm_admission.specs.declared.verdict.Admitted.TheVariants as admitted
+use Rattle.wsm_admission.specs.Admission as admission
 use Rattle.wsm_admission.specs.Admission.{counter}
 use Rattle.wsm_semantics.specs.declared.out_row.OutRow.{OutRow}
 use Rattle.wsm_semantics.specs.Firings.{firings}
@@ -12,7 +14,7 @@ use Rattle.wsm_program.specs.Program.{Program, is_program}
 use Rattle.wsm_bytecode.specs.Spelling.{spelling}
 use Rattle.wsm_machine.specs.Meaning.{query_of}
 use Rattle.wsm_engine.specs.State.{State as EngineState}
-use Rattle.wsm_engine.specs.Meaning.{Fits as EngineFits, selects_record}
+use Rattle.wsm_engine.specs.Meaning.{Fits as EngineFits, answer_by, selects_record}
 use Rattle.wsm_key_parts.specs.OpenedLate.{openers}
 use Rattle.wsm_part_engines.specs.Fits.{engine_at}
 
@@ -29,6 +31,20 @@ AreOf p engines = (part : ℕ) → IsOf p (engine_at engines part)
 abbrev pub IsJudged : Bool → Event → Option EngineState → Type 0
 IsJudged fit e None = Unit {0}
 IsJudged fit e (Some s) = fit ≡ fits_declared s.program.header.schema e
+
+-- no rule of an engine refuses a record, if there is one
+abbrev pub IsAdmitted : Event → Option EngineState → Type 0
+IsAdmitted e None = Unit {0}
+IsAdmitted e (Some s) = answer_by s e ≡ Ok admitted.Record
+
+-- by what an engine decides, if there is one, and by what it does behind an event
+abbrev pub admission_of : Option EngineState → Option admission.State
+admission_of None = None
+admission_of (Some s) = Some s.machine.admission
+
+abbrev pub admission_on : Option EngineState → Event → Option admission.State
+admission_on None e = None
+admission_on (Some s) e = Some (admission.after (answer_by s e) e s.machine.admission)
 
 -- the rows of an engine, if there is one
 abbrev pub rows_of : Option EngineState → List OutRow
@@ -73,6 +89,7 @@ pub record Feeds (old new : Option EngineState) (e : Event) (panes : ℕ) : Type
   pub of : (p : Program) → IsOf p old → IsOf p new
   pub none : old ≡ None → new ≡ None
   pub fits : (fed : List Event) → Holds old fed → Holds new (fed_with old e fed)
+  pub admission : admission_of new ≡ admission_on old e
   pub rows : (fed : List Event) → Holds old fed → rows_of new ≡ rows_on old fed e
   pub fired : (fed : List Event) → Holds old fed → panes ≡ fired_on old fed e
 

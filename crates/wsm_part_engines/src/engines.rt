@@ -7,6 +7,7 @@ ghost use Rattle.wsm_windows.specs.Windows.{IsTime};
 ghost use Rattle.wsm_semantics.specs.ByNumber.{row_by};
 ghost use Rattle.wsm_program.specs.Program.{Program as AnyProgram, is_program};
 ghost use Rattle.wsm_part_engines.specs.Fits.{number_of};
+ghost use Rattle.wsm_part_engines.specs.Follows.{FollowRecord, FollowWatermark, MayTakeRecord};
 ghost use Rattle.wsm_part_engines.specs.Ordered.{row_at, IsRow};
 ghost use Rattle.wsm_part_engines.specs.Ready.{IsReady, MayTake};
 ghost use Rattle.wsm_part_engines.specs.Takes.{SelectsRecord, TakesRecord, TakesWatermark};
@@ -63,7 +64,8 @@ impl Engines {
         })
     }
 
-    /// Takes a record: feeds it to the engine of its part, which is opened at the marks of the sources if the part has none.
+    /// Takes a record that the front admits: feeds it to the engine of its part, which is opened at the marks of the sources if the part
+    /// has none. The engine goes by these marks too, so it looks at no rule.
     ///
     /// # Errors
     ///
@@ -73,13 +75,13 @@ impl Engines {
         marks: &[i64],
         part: u32,
         event: &Event,
-        values_fit: bool,
     ) -> Result<Fed, AllocError>
-        requires may { MayTake values_fit (event_of event.now) self.old }
+        requires may { MayTakeRecord marks.now (event_of event.now) self.old }
         requires few { length marks.now ≤ MAX_SOURCES }
         requires times { All IsTime marks.now }
         requires cleared { self.old.order.items ≡ [] }
         ensures ready { (p : AnyProgram) → IsTrue (is_program p) → IsReady p self.old → IsReady p self.new }
+        ensures follow { FollowRecord marks.now (event_of event.now) self.old self.new }
         ensures takes { (p : AnyProgram) → IsTrue (is_program p) → IsReady p self.old →
             IfOk result (λ fed. TakesRecord p marks.now part (event_of event.now) self.old self.new fed.fired) }
         ensures selects { (p : AnyProgram) → IsTrue (is_program p) → IsReady p self.old →
@@ -87,7 +89,7 @@ impl Engines {
     {
         let place = part as usize;
         open_part(self.alloc, &self.bytes, marks, &mut self.slots, place)?;
-        let fed = feed_one(&mut self.slots, place, event, values_fit);
+        let fed = feed_one(&mut self.slots, place, event);
         place_one(&mut self.order, &self.slots, part)?;
         Ok(fed)
     }
@@ -101,6 +103,7 @@ impl Engines {
         requires may { MayTake values_fit (event_of event.now) self.old }
         requires cleared { self.old.order.items ≡ [] }
         ensures ready { (p : AnyProgram) → IsReady p self.old → IsReady p self.new }
+        ensures follow { FollowWatermark (event_of event.now) self.old self.new }
         ensures takes { IfOk result (λ panes. TakesWatermark (event_of event.now) self.old self.new panes) }
     {
         let fired = feed_all(&mut self.slots, event, values_fit);

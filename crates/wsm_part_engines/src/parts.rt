@@ -120,7 +120,7 @@ impl Parts {
             Ok(admitted) => match admitted {
                 Admitted::Record => {
                     let engines = &mut self.engines;
-                    let fed = engines.take_record(&self.marks, part, event, values_fit)?;
+                    let fed = engines.take_record(&self.marks, part, event)?;
                     self.fired = self.fired.saturating_add(fed.fired);
                     Ok(PartsReply {
                         refusal: None,

@@ -3,7 +3,7 @@
 ghost use Rattle.std.specs.Prelude.{◌≡◌, ◌↔◌, ◌<◌, ◌≤◌, ◌^◌, ℕ, List, length, Some, None, IsSome, IsTrue, OnOk, OnErr};
 ghost use Rattle.wsm_record.specs.Event.{Event as AnyEvent, event_of};
 ghost use Rattle.wsm_part_engines.specs.Fits.{engine_at};
-ghost use Rattle.wsm_part_engines.specs.Slots.{Feeds, FeedsAll, FeedsOne, Holds, IsJudged, Puts, one_if_some, open_count, rows_of, selected_on};
+ghost use Rattle.wsm_part_engines.specs.Slots.{Feeds, FeedsAll, FeedsOne, Holds, IsAdmitted, IsJudged, Puts, one_if_some, open_count, rows_of, selected_on};
 
 use std::alloc::AllocError;
 use wsm_engine::Engine;
@@ -77,20 +77,41 @@ fn make_room(slots: &mut Vec<Option<Engine>>, part: usize) -> Result<(), AllocEr
     Ok(())
 }
 
-/// Feeds the engine of a part an event, if there is one.
-pub fn feed_one(slots: &mut [Option<Engine>], part: usize, event: &Event, values_fit: bool) -> Fed
-    requires { IsJudged values_fit (event_of event.now) (engine_at slots.old part) }
+/// Feeds the engine of a part a record, if there is one. No rule of it refuses the record.
+pub fn feed_one(slots: &mut [Option<Engine>], part: usize, event: &Event) -> Fed
+    requires { IsAdmitted (event_of event.now) (engine_at slots.old part) }
     ensures feeds { FeedsOne part slots.old slots.new (event_of event.now) result.fired }
     ensures selected { (fed : List AnyEvent) → Holds (engine_at slots.old part) fed →
         result.selected ≡ selected_on (engine_at slots.old part) fed (event_of event.now) }
 {
     if part < slots.len() {
-        feed_slot(&mut slots[part], event, values_fit)
+        feed_record(&mut slots[part], event)
     } else {
         Fed {
             fired: 0,
             selected: false,
         }
+    }
+}
+
+// Feeds an engine a record that none of its rules refuses, if there is one.
+fn feed_record(slot: &mut Option<Engine>, event: &Event) -> Fed
+    requires { IsAdmitted (event_of event.now) slot.old }
+    ensures feeds { Feeds slot.old slot.new (event_of event.now) result.fired }
+    ensures selected { (fed : List AnyEvent) → Holds slot.old fed → result.selected ≡ selected_on slot.old fed (event_of event.now) }
+{
+    match slot {
+        Some(engine) => {
+            let reply = engine.feed_admitted(event);
+            Fed {
+                fired: reply.fired,
+                selected: reply.selected,
+            }
+        }
+        None => Fed {
+            fired: 0,
+            selected: false,
+        },
     }
 }
 

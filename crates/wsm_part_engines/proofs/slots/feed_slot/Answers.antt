@@ -12,6 +12,7 @@ returns-in-Some-clause-feeds c =
       of = λ p is. fed.program ∙ is;
       none = λ is. absurd (cc);
       fits = λ before is. fed.fits before is;
+      admission = ap Some fed.admission;
       rows = λ before is. fed.rows before is;
       fired = λ before is. ap (λ (r : Reply). r.fired) (fed.reply before is);
     })

@@ -1,10 +1,11 @@
-use Rattle.std.proofs.Common.{replicate, ap, sym, subst, ◌∙◌}
+use Rattle.std.proofs.Common.{replicate, [], ap, sym, subst, ◌∙◌}
 use Rattle.wsm_record.specs.Schema.{source_count}
 use Rattle.wsm_admission.specs.Clock.{IsWithinLimits}
-use Rattle.wsm_admission.specs.Admission.{State}
+use Rattle.wsm_admission.specs.Admission.{Fits, State}
 use Rattle.wsm_program.specs.Program.{Header}
 use Rattle.wsm_engine.proofs.Limits.{clock_within}
 use Rattle.wsm_part_engines.specs.Answers.{MayBeRun}
+use Rattle.wsm_part_engines.specs.Follows.{AllFollow}
 use Rattle.wsm_part_engines.proofs.parts.Parts.open.Goals as goal
 
 pub new-front-requires : goal.new-front-requires
@@ -19,8 +20,10 @@ invariant_of-result c =
       panes = may.panes;
       keyless = may.keyless;
       clock = ap (λ (s : State). s.clock) opened ∙ ap (λ (h : Header). h.clock) c.header.ensures.header;
+      history = ([], subst (λ (h : Header). Fits c.into_program-program.result.header.shape h.schema c.new-front.result []) c.header-2.ensures.header (c.new-front.ensures.fits c.into_program-program.result.header.shape));
       marks = c.in_ok-engines.ensures.marks
           ∙ sym (ap (λ (s : State). s.marks) opened ∙ (λ i. replicate (source_count (c.header-2.ensures.header i).schema) ((c.header.ensures.header i).clock.start)));
       few = c.in_ok-engines.ensures.few;
       engines = c.in_ok-engines.ensures.engines;
+      follow = subst (AllFollow c.new-front.result) (sym c.in_ok-engines.ensures.slots) (λ part. tt);
     }
