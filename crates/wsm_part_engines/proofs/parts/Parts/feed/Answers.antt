@@ -45,56 +45,6 @@ take_record-requires-clause-may c =
     let front : IsFront p c.deref.result.now a.front = record { clock = sound.clock; marks = c.deref.ensures.value ∙ sound.marks; history = sound.history } in
     record { program = p; lawful = sound.lawful; ready = ready; front = a.front; is_front = front; follow = sound.follow; taken = sym decided ∙ is }
 
-pub invariant_of-self-in_err-fed-in-Record : goal.invariant_of-self-in_err-fed-in-Record
-invariant_of-self-in_err-fed-in-Record c =
-    let a = c.self.inside in
-    let sound = c.self.invariant in
-    let p : Program = a.program in
-    let e : Event = event_of c.args.event.now in
-    let answer = c.decide_judged-answer in
-    let decided : answer.result ≡ decision p.header.shape p.header.schema a.front e = answer.ensures.decision ∙ ap (λ (h : Header). decision h.shape h.schema a.front e) c.header-header.ensures.header in
-    let cleared : Engines = record a.engines { order = c.clear.new.self } in
-    let ready : IsReady p cleared = record { bytes = sound.engines.bytes; few = sound.engines.few; of = sound.engines.of; rows = subst (AllByRecursion (IsRow a.engines.slots.items)) (sym c.clear.ensures.items) tt } in
-    let is : answer.result ≡ Ok admitted.Record = c.in-Ok.is ∙ ap Ok c.in-Record.is in
-    let front : IsFront p c.deref.result.now a.front = record { clock = sound.clock; marks = c.deref.ensures.value ∙ sound.marks; history = sound.history } in
-    record {
-      lawful = sound.lawful;
-      panes = sound.panes;
-      keyless = sound.keyless;
-      clock = clock_kept a.front answer.new.self e answer.result answer.ensures.state ∙ sound.clock;
-      history = history_kept a.front answer.new.self e answer.result answer.ensures.state p.header.shape p.header.schema decided sound.history;
-      marks = sound.marks ∙ sym (same_marks a.front answer.new.self e answer.result answer.ensures.state (Ok admitted.Record) is);
-      few = sound.few;
-      engines = c.take_record.ensures.ready p sound.lawful ready;
-      follow = subst (λ (s : admission.State). AllFollow s c.take_record.new.self.slots.items) (sym (answer.ensures.state ∙ ap (λ (r : Result Admitted Refusal). after r e a.front) is))
-          (c.take_record.ensures.follow p sound.lawful ready a.front front sound.follow (sym decided ∙ is));
-    }
-
-pub invariant_of-self-in_ok-fed-in-Record : goal.invariant_of-self-in_ok-fed-in-Record
-invariant_of-self-in_ok-fed-in-Record c =
-    let a = c.self.inside in
-    let sound = c.self.invariant in
-    let p : Program = a.program in
-    let e : Event = event_of c.args.event.now in
-    let answer = c.decide_judged-answer in
-    let decided : answer.result ≡ decision p.header.shape p.header.schema a.front e = answer.ensures.decision ∙ ap (λ (h : Header). decision h.shape h.schema a.front e) c.header-header.ensures.header in
-    let cleared : Engines = record a.engines { order = c.clear.new.self } in
-    let ready : IsReady p cleared = record { bytes = sound.engines.bytes; few = sound.engines.few; of = sound.engines.of; rows = subst (AllByRecursion (IsRow a.engines.slots.items)) (sym c.clear.ensures.items) tt } in
-    let is : answer.result ≡ Ok admitted.Record = c.in-Ok.is ∙ ap Ok c.in-Record.is in
-    let front : IsFront p c.deref.result.now a.front = record { clock = sound.clock; marks = c.deref.ensures.value ∙ sound.marks; history = sound.history } in
-    record {
-      lawful = sound.lawful;
-      panes = sound.panes;
-      keyless = sound.keyless;
-      clock = clock_kept a.front answer.new.self e answer.result answer.ensures.state ∙ sound.clock;
-      history = history_kept a.front answer.new.self e answer.result answer.ensures.state p.header.shape p.header.schema decided sound.history;
-      marks = sound.marks ∙ sym (same_marks a.front answer.new.self e answer.result answer.ensures.state (Ok admitted.Record) is);
-      few = sound.few;
-      engines = c.take_record.ensures.ready p sound.lawful ready;
-      follow = subst (λ (s : admission.State). AllFollow s c.take_record.new.self.slots.items) (sym (answer.ensures.state ∙ ap (λ (r : Result Admitted Refusal). after r e a.front) is))
-          (c.take_record.ensures.follow p sound.lawful ready a.front front sound.follow (sym decided ∙ is));
-    }
-
 pub invariant_of-self-in_err-fired-in-Watermark : goal.invariant_of-self-in_err-fired-in-Watermark
 invariant_of-self-in_err-fired-in-Watermark c =
     let a = c.self.inside in
@@ -123,8 +73,8 @@ invariant_of-self-in_err-fired-in-Watermark c =
           (c.take_watermark.ensures.follow p ready a.front sound.follow c.in-Watermark.old c.in-Watermark.new (sym decided ∙ is));
     }
 
-pub invariant_of-self-in_ok-fired-in-Watermark : goal.invariant_of-self-in_ok-fired-in-Watermark
-invariant_of-self-in_ok-fired-in-Watermark c =
+pub invariant_of-self-in-Watermark : goal.invariant_of-self-in-Watermark
+invariant_of-self-in-Watermark c =
     let a = c.self.inside in
     let sound = c.self.invariant in
     let p : Program = a.program in
