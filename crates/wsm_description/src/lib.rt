@@ -27,8 +27,6 @@ mod place;
 mod reading;
 mod record_part;
 mod refusal;
-#[cfg(test)]
-mod tests;
 mod time_part;
 mod told;
 mod whole;

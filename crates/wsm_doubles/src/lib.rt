@@ -31,5 +31,3 @@ mod hash;
 mod late;
 pub mod laws;
 mod table;
-#[cfg(test)]
-mod tests;

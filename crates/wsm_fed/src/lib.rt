@@ -22,5 +22,3 @@ mod fed;
 mod held;
 pub mod laws;
 mod said;
-#[cfg(test)]
-mod tests;

@@ -30,5 +30,3 @@ mod order;
 mod position;
 mod reading;
 mod sums;
-#[cfg(test)]
-mod tests;

@@ -35,6 +35,4 @@ mod marks;
 mod numbers;
 mod reading;
 mod records;
-#[cfg(test)]
-mod tests;
 mod writing;

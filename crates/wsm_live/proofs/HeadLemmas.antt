@@ -1,6 +1,6 @@
 -- What a head says of lines that were cut is read back, and stands for them.
 use Rattle.std.proofs.Common.{◌≡◌, ◌∙◌, ◌+◌, ◌-◌, ◌^◌, ◌<◌, ◌≤◌, ℕ, List, [], ◌∷◌, ◌++◌, Bool, true, false, cond, Option, Some, None, option_and_then, take, drop, length, nat_lt, nat_eq, refl, sym, ap, subst, arith, append_assoc}
-use Rattle.std.specs.Prelude.{Result, Ok, Err, IfOk, IfSome}
+use Rattle.std.specs.Prelude.{IfSome}
 use Rattle.std.specs.Fmt.{decimal}
 use Rattle.std.specs.List.{starts_with}
 use Rattle.std.specs.Option.{option_map_or}
@@ -53,11 +53,6 @@ pub row_says : {B : Type 0} (turn : B → Turn) (states : List ℕ → B → Lis
 row_says turn states by before count sum text fits small says = subst (IfCut (CutStates turn states by before)) (sym (cut_read count sum text fits small)) says
 
 -- ---- what stands behind a head's row
-
-pub if_ok_some : {A E : Type 0} (r : Result (Option A) E) (P : Type 0) → P → IfOk r (λ o. IfSome o (λ _. P))
-if_ok_some (Ok (Some x)) P p = p
-if_ok_some (Ok None) P p = tt
-if_ok_some (Err e) P p = tt
 
 pub some_then : {A : Type 0} (o : Option A) (x : A) (P : A → Type 0) → o ≡ Some x → IfSome o P → P x
 some_then {A} o x P is all = subst (λ (q : Option A). IfSome q P) is all

@@ -18,5 +18,3 @@ pub mod laws;
 mod live;
 mod rows;
 mod run;
-#[cfg(test)]
-mod tests;

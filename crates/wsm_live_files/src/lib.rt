@@ -25,5 +25,3 @@ mod folder;
 mod journal_files;
 mod run_name;
 mod taken;
-#[cfg(test)]
-mod tests;

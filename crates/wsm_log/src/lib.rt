@@ -22,5 +22,3 @@ pub use lines::{Lines, ReadFailed};
 
 mod line_buffer;
 mod lines;
-#[cfg(test)]
-mod tests;

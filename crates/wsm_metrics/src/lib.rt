@@ -15,6 +15,4 @@ pub use text::metrics_text;
 
 mod measured;
 mod metric;
-#[cfg(test)]
-mod tests;
 mod text;

@@ -12,5 +12,3 @@ pub use numbering::Numbering;
 
 pub mod laws;
 mod numbering;
-#[cfg(test)]
-mod tests;

@@ -11,6 +11,4 @@ pub use words::{Count, Words};
 
 mod counts;
 mod lines;
-#[cfg(test)]
-mod tests;
 mod words;

@@ -18,5 +18,3 @@ mod field_binding;
 mod key_binding;
 mod names_part;
 mod place_part;
-#[cfg(test)]
-mod tests;

@@ -10,5 +10,3 @@ mod crc;
 mod far_table;
 pub mod laws;
 mod table;
-#[cfg(test)]
-mod tests;

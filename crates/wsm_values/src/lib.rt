@@ -43,8 +43,6 @@ mod fraction;
 mod local;
 mod pattern;
 mod rfc3339;
-#[cfg(test)]
-mod tests;
 mod time;
 mod word;
 mod zone;

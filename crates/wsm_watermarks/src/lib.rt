@@ -35,6 +35,4 @@ pub mod laws;
 mod rule;
 mod stamp;
 mod table;
-#[cfg(test)]
-mod tests;
 mod watermarks;

@@ -1,6 +1,6 @@
-use crate::{Fold, LocalForm, TimeForm, Unit, Word, Zone, ZoneFault, time_of};
 use std::alloc::Global;
 use std::test::Fail;
+use wsm_values::{Fold, LocalForm, TimeForm, Unit, Word, Zone, ZoneFault, time_of};
 
 // Berlin in 2026: the two nights at which its clocks change, and the rule for what comes after.
 const BERLIN: [u8; 165] = *b"TZif2\0\0\0\0\0\0\0\0\0\0\0\0\0\0\0\

@@ -2,10 +2,10 @@
 
 ghost use Rattle.std.specs.Prelude.{◌≡◌, None, true, false};
 
-use super::*;
 use std::alloc::{AllocError, Global};
 use std::test::Fail;
 use wsm_journal::{FolderError, JournalFolder};
+use wsm_live::{HeadRow, LineTaker, Live, LiveError, LiveRun};
 
 const NAME: &[u8] = b"0123456789abcdef";
 

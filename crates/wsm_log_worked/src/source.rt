@@ -1,6 +1,6 @@
-use super::*;
 use std::test::Fail;
 use wsm_record::{Field, Name, Schema, Ty};
+use wsm_source::{SourceRefusal, bind, describe};
 use wsm_values::Zone;
 
 // A query with a key and a number.

@@ -1,7 +1,7 @@
 //! One run of each, since no contract says that memory is had.
 
-use super::*;
 use std::test::Fail;
+use wsm_watermarks::{Held, MOST_STAMPS, Rule, Stamp, Timed, Watermarks};
 
 const RULE: Rule = Rule {
     agree: 2,

@@ -1,5 +1,5 @@
-use super::*;
 use std::test::Fail;
+use wsm_description::{Format, describe};
 
 // The text of the refusal of a source.
 fn refusal_of(rt: &HostRuntime, text: &str) -> Result<String, Fail> {

@@ -1,7 +1,7 @@
 //! What is taken of some texts, and in how many pieces.
 
-use super::*;
 use std::test::Fail;
+use wsm_fed::{Broken, Fed, FedFault};
 
 const TEXT: &[u8] = b"from,7\n:a\n::b\nat,2,9\nat,0,9\n:\nat,1,x,y\n:c\nat,1,1";
 

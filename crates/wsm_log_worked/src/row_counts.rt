@@ -1,7 +1,7 @@
 //! Rows in pieces, and their counts as text.
 
-use crate::Lines;
 use std::test::Fail;
+use wsm_row_counts::Lines;
 
 #[test]
 fn counts_rows_in_pieces(rt: HostRuntime) -> Result<(), Fail> {

@@ -1,7 +1,7 @@
 //! Metrics with each kind of value.
 
-use crate::{Kind, Labelled, Metric, Values, metrics_text};
 use std::test::Fail;
+use wsm_metrics::{Kind, Labelled, Metric, Values, metrics_text};
 
 #[test]
 fn writes_metrics(rt: HostRuntime) -> Result<(), Fail> {

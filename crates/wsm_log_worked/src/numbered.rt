@@ -1,7 +1,7 @@
 //! Numbered lines whose sums are those of zlib.
 
-use crate::Numbering;
 use std::test::Fail;
+use wsm_numbered::Numbering;
 
 #[test]
 fn numbers_lines(rt: HostRuntime) -> Result<(), Fail> {

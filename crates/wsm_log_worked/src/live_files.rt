@@ -1,10 +1,10 @@
 //! Folders of a file system, of which no clause speaks.
 
-use super::*;
 use std::fs::{self, File};
 use std::rt::Files;
 use std::test::Fail;
 use wsm_journal::{JournalFile, read_journal};
+use wsm_live_files::{JournalFiles, LiveFolder, Told};
 
 // How many whole records the journal of a folder has.
 fn records_in<R: Files + AllocGlobal>(rt: &R, path: &str) -> Result<usize, Fail> {

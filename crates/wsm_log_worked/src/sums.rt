@@ -1,6 +1,6 @@
 //! Sums whose values are those of zlib.
 
-use crate::Crc32;
+use wsm_sums::Crc32;
 
 #[test]
 fn takes_a_text_in_pieces(rt: HostRuntime) {

@@ -1,8 +1,8 @@
 //! One run, since no contract says that memory is had.
 
-use super::*;
 use std::test::Fail;
 use wsm_admission::Clock;
+use wsm_doubles::Doubles;
 use wsm_windows::Shape;
 
 const CLOCK: Clock = Clock {

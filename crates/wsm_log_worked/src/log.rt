@@ -1,8 +1,8 @@
 //! Readers whose bytes no clause knows.
 
-use super::*;
 use std::io::{self, Read};
 use std::test::Fail;
+use wsm_log::{Lines, ReadFailed};
 
 // Gives a text so many bytes a call. Each second call is interrupted, and one fails, if it is to.
 #[derive(Drop)]

@@ -2,9 +2,9 @@
 
 ghost use Rattle.std.specs.Prelude.{◌≡◌, None, false};
 
-use super::*;
 use std::alloc::Global;
 use std::test::Fail;
+use wsm_journal::{Behind, FolderError, JournalFile, JournalFolder, read_journal};
 
 const TEXT: &[u8] = b"w,60\nr,acme,70,5\nat,812,17,1,168801797,8:40\nat,813,0,0,2447198702,8:41\n";
 

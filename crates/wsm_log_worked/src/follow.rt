@@ -1,12 +1,14 @@
 //! Logs in a folder of a file system, of which no clause speaks.
 
-use super::*;
 use std::alloc::Global;
 use std::fs::{self, File};
 use std::io::{self, Write};
 use std::rt::Files;
 use std::test::Fail;
 use std::time::Duration;
+use wsm_follow::{
+    Folder, FolderFault, Follower, LogFolder, Loss, Lost, Name, Position, Turn, beginning,
+};
 
 // The lines of all turns up to one that gives none.
 fn next_lines<F: Folder>(
