@@ -1,5 +1,6 @@
 -- Panes that a walk passes over: they don't expire yet, and came on time before.
 use Rattle.std.proofs.Common.{◌≡◌, ℕ, zero, suc, ◌+◌, ◌<◌, ◌≤◌, Bool, true, false, ◌&&◌, cond, T, Option, Some, None, List, [], ◌∷◌, drop, get_or, refl, sym, ap, subst, ◌∙◌, arith}
+use lib.Signed.{lt_z}
 use Rattle.std.proofs.lemmas.Int.{ints, int_max_is}
 use Rattle.std.proofs.lemmas.Option.{slice_get_within, get_or_from_slice_get}
 use Rattle.std.specs.Int.{int_max}
@@ -102,6 +103,18 @@ before_next time x es rest false gone (suc k) e low at = rest k e (omega (arith,
 before_past : {X : Type 0} (time : ℤ) (es : List (Place × X)) (k : ℕ) (e : Place × X) → k < ended time es → slice_get es k ≡ Some e → e.0.end ≤ℤ time
 before_past time [] k e low at = absurd (cc)
 before_past time (x ∷ es) k e low at = before_next time x es (λ k e low at. before_past time es k e low at) (is_kept time x.0) refl k e low at
+
+pub less_from : (x y : ℤ) → lt_z x y ≡ true → x <ℤ y
+less_from x y h = grind (arith, ints)
+
+-- what ends past a limit isn't due by it
+pub not_due_yet : {X : Type 0} (limit later : ℤ) (o : Option (Place × X)) (p : Place) → place_due later o ≡ Some p → limit <ℤ p.end → place_due limit o ≡ None
+not_due_yet limit later None p due late = refl
+not_due_yet limit later (Some e) p due late =
+    elim (int_lt later e.0.end) as (λ b. cond {A = Option Place} b None (Some e.0) ≡ Some p → cond {A = Option Place} (int_lt limit e.0.end) None (Some e.0) ≡ None) [
+      | true ↦ λ h. absurd (cc)
+      | false ↦ λ h. let at : limit <ℤ e.0.end = subst (λ (q : Place). limit <ℤ q.end) (sym (some_same h)) late in let kept : int_lt limit e.0.end ≡ true = grind (arith, ints, at) in ap (λ (b : Bool). cond {A = Option Place} b None (Some e.0)) kept
+    ] due
 
 -- what ends by a limit ends by a later one
 pub due_later : {X : Type 0} (limit later : ℤ) (o : Option (Place × X)) (p : Place) → limit ≤ℤ later → place_due limit o ≡ Some p → place_due later o ≡ Some p

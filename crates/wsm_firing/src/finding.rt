@@ -33,9 +33,12 @@ pub fn first_to_fire(held: &HeldPanes, expired: i64, old: i64, new: i64) -> Opti
     ensures next { IsNextToFire expired old new (entries_of held.now) 0 (place_found result) }
     ensures spot { IfSome result (IsSpot held.now) }
 {
-    match Spot::rebuilt_found(held.first_due(expired)) {
-        Some(spot) => Some(spot),
-        None => Spot::rebuilt_found(held.first_due_after(old.max(expired), new)),
+    match Spot::rebuilt_found(held.first_due(new)) {
+        // Those that don't expire yet may have come on time before.
+        Some(spot) if spot.place.end > expired => {
+            Spot::rebuilt_found(held.first_due_after(old.max(expired), new))
+        }
+        found => found,
     }
 }
 

@@ -23,12 +23,16 @@ pub fn place_one(
     ensures none { OnErr result (order.new.items ≡ []) }
 {
     order.clear();
-    match add_rows(order, part, rows(slots, part as usize)) {
-        Ok(()) => Ok(()),
-        Err(refused) => {
-            order.clear();
-            Err(refused)
-        }
+    match rows(slots, part as usize) {
+        // Most records fire no pane.
+        [] => Ok(()),
+        rows => match add_rows(order, part, rows) {
+            Ok(()) => Ok(()),
+            Err(refused) => {
+                order.clear();
+                Err(refused)
+            }
+        },
     }
 }
 

@@ -1,4 +1,5 @@
 pub mod Lists
+pub mod Capitals
 pub mod DeclaredFields
 pub mod FittingValues
 pub mod Schemas

@@ -1,8 +1,8 @@
 //! The reserved words.
 
-ghost use Rattle.std.specs.Prelude.{◌≡◌, bytes_eq};
+ghost use Rattle.std.specs.Prelude.{◌≡◌, ◌∷◌, ℕ, List, bytes_eq};
 ghost use Rattle.std.specs.List.{list_any};
-ghost use Rattle.wsm_record.specs.Name.{is_reserved};
+ghost use Rattle.wsm_record.specs.Name.{is_between, is_reserved};
 
 /// The words of query texts, which are no names.
 const RESERVED: [&str; 49] = [
@@ -61,7 +61,17 @@ const RESERVED: [&str; 49] = [
 pub(crate) fn is_reserved(word: &[u8]) -> bool
     ensures { result ≡ is_reserved word.now }
 {
-    is_one_of(word, &RESERVED)
+    // Each begins with a capital, and most names don't.
+    begins_with_capital(word) && is_one_of(word, &RESERVED)
+}
+
+fn begins_with_capital(word: &[u8]) -> bool
+    ensures { (first : ℕ) (rest : List ℕ) → word.now ≡ first ∷ rest → result ≡ is_between 65 90 first }
+{
+    match word {
+        [first, ..] => first.is_ascii_uppercase(),
+        [] => false,
+    }
 }
 
 fn is_one_of(word: &[u8], words: &[&str]) -> bool
