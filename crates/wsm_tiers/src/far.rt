@@ -22,7 +22,7 @@ pub(crate) struct Far<T> {
 }
 
 impl<T> Model for Far<T> {
-    ghost use Rattle.std.specs.Prelude.{◌≡◌, ◌*◌, ◌≤◌, length, vec_capacity};
+    ghost use Rattle.std.specs.Prelude.{◌≡◌, ◌+◌, ◌*◌, ◌<◌, ◌≤◌, length, vec_capacity};
     ghost use Rattle.wsm_tiers.specs.Listed.{Listed, listed_code};
 
     ghost Value = { Listed T };
@@ -34,7 +34,7 @@ impl<T> Model for Far<T> {
 
     ghost view = { λ a. record { items = joined a.tiers.items; room = a.room } };
 
-    ghost invariant = { λ a. AreFilled a.len a.tiers.items × (a.len ≤ a.room) × (a.room ≤ TIER * length a.tiers.items) × (vec_capacity a.tiers ≡ length a.tiers.items) };
+    ghost invariant = { λ a. AreFilled a.len a.tiers.items × (a.len ≤ a.room) × (a.room ≤ TIER * length a.tiers.items) × (TIER * length a.tiers.items < a.room + TIER) × (vec_capacity a.tiers ≡ length a.tiers.items) };
 }
 
 impl<T: Copy + Drop> Far<T> {

@@ -21,4 +21,4 @@ pub invariant_of-self : goal.invariant_of-self
 invariant_of-self g c =
     let less = rw (← c.self.view_is) at c.requires.room in
     let long = count c.self.inside.tiers.items c.self.inside.len c.self.invariant.0 in
-    (c.put.ensures.filled, omega (arith, less, long), omega (arith, c.self.invariant.2, c.put.ensures.room), omega (arith, c.self.invariant.3, c.put.ensures.capacity, c.put.ensures.room))
+    (c.put.ensures.filled, omega (arith, less, long), omega (arith, c.self.invariant.2, c.put.ensures.room), omega (arith, c.self.invariant.3, c.put.ensures.room), omega (arith, c.self.invariant.4, c.put.ensures.capacity, c.put.ensures.room))
