@@ -76,7 +76,10 @@ def want_built(crate: Crate) -> None:
 
 def check(crate: Crate, folder: Path, *flags: str, jobs: int = 1) -> "subprocess.CompletedProcess[str]":
     """Has the prover check a crate's text in a folder, over the libraries below that crate. It ends when this ends."""
-    words = [rtlib().RATTLE, "check", *crate.words(["--jobs", str(jobs)], keeps=False), *flags]
-    return subprocess.run(
-        [*rtlib().guarded(), *words], cwd=folder, stdin=subprocess.DEVNULL, stdout=subprocess.PIPE, stderr=subprocess.STDOUT, text=True, errors="replace",
+    words = [*rtlib().guarded(), rtlib().RATTLE, "check", *crate.words(["--jobs", str(jobs)], keeps=False), *flags]
+    begin = functools.partial(
+        subprocess.run, words, cwd=folder, stdin=subprocess.DEVNULL, stdout=subprocess.PIPE, stderr=subprocess.STDOUT, text=True, errors="replace",
     )
+    ran: subprocess.CompletedProcess[str] = begin()
+    # One that was killed lacked memory, most likely: others run beside it.
+    return begin() if ran.returncode < 0 else ran

@@ -5,7 +5,7 @@ use Rattle.wsm_inputs.specs.declared.end.End.{End}
 use Rattle.wsm_inputs.specs.declared.end.End.TheVariants.{Refused, Rejected, Memory, ReadFailed, WriteFailed}
 use Rattle.wsm_inputs.specs.declared.input.Input.{Input}
 use Rattle.wsm_inputs.specs.Inputs.{EndsBefore}
-use Rattle.wsm.specs.Stated.{RunsStated, Stated}
+use Rattle.wsm_inputs.specs.Stated.{RunsStated, Stated}
 
 -- of one that was begun each end may say so
 pub begun_stated : (i : Input) (result : Result Totals End) → RunsStated i → Stated i result

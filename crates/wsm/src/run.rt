@@ -8,9 +8,9 @@ ghost use Rattle.wsm_csv.specs.Rows.{Follows, error_of, read_end};
 ghost use Rattle.wsm_machine.specs.Meaning.{query_of};
 ghost use Rattle.wsm_inputs.specs.Ends.{hides_memory};
 ghost use Rattle.wsm_inputs.specs.Inputs.{EndsAs};
+ghost use Rattle.wsm_inputs.specs.Stated.{KeepsTo, Stated};
 ghost use Rattle.wsm.specs.Written.{Cells, Completes, EndsEarly, InputWritten, RowsBroken, RowsWritten, TextWritten};
 ghost use Rattle.wsm.specs.Fitting.{ByRanges, InputByRanges};
-ghost use Rattle.wsm.specs.Stated.{KeepsTo, Stated};
 ghost use Rattle.wsm.specs.Turns.{Fits, Stands};
 
 use crate::turns::Turns;
@@ -18,8 +18,7 @@ use std::alloc::Global;
 use std::io::Read;
 use wsm_csv::{Device, ReadEnd, Rows};
 use wsm_engine::Totals;
-use wsm_engine::laws::{held_within, never_traps, spends_within};
-use wsm_inputs::{End, Input, accepted_of};
+use wsm_inputs::{End, Input, accepted_of, keeps_to_stated};
 use wsm_rules::Verified;
 
 /// Runs the query of a text over the rows of a reader, as [`run_over`] does.
@@ -39,6 +38,7 @@ pub fn run_query<R: Read + Drop, D: Device>(
         (D.taken out.old) (D.taken out.new) (D.is_flushed out.new) (D.has_failed out.new) result }
     ensures well { IfOk result (TextWritten text.now (R.remaining reader) (D.taken out.old) (D.taken out.new)) }
     ensures ranges { ByRanges text.now result }
+    ensures stated { Stated (Input.Text text.entry) result }
 {
     run_over(alloc, Input::Text(text), reader, out)
 }
@@ -55,9 +55,10 @@ pub fn run_program<R: Read + Drop, D: Device>(
     out: &mut D,
 ) -> Result<Totals, End>
     requires { D.has_failed out.old ≡ false }
-    ensures { EndsAs (Input.Program program.entry) (RowsWritten (R.remaining reader) (D.taken out.old) (D.taken out.new))
+    ensures ends { EndsAs (Input.Program program.entry) (RowsWritten (R.remaining reader) (D.taken out.old) (D.taken out.new))
         (RowsBroken (R.remaining reader) (D.taken out.old) (D.taken out.new))
         (D.taken out.old) (D.taken out.new) (D.is_flushed out.new) (D.has_failed out.new) result }
+    ensures stated { Stated (Input.Program program.entry) result }
 {
     run_over(alloc, Input::Program(program), reader, out)
 }
@@ -136,20 +137,10 @@ fn run_verified<R: Read + Drop, D: Device>(
     ensures memory_apart { IfErr result (λ end. hides_memory end ≡ false) }
     ensures keeps { (past : List Event) (e : Event) → KeepsTo verified past e }
 {
-    keep_to_stated(&verified);
+    keeps_to_stated(&verified);
     let mut turns = Turns::open(alloc, verified)?;
     take_rows(&mut turns, rows, out)?;
     finish(&mut turns, out)
-}
-
-// What an accepted program states holds of each event, behind each history.
-fn keep_to_stated(verified: &Verified)
-    ensures { (past : List Event) (e : Event) → KeepsTo verified.now past e }
-{
-    never_traps();
-    held_within();
-    spends_within();
-    let _header = verified.program().header();
 }
 
 // Takes the turn of each row, and gives the device its lines before the next row is asked for.

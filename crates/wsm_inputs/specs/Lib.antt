@@ -5,3 +5,4 @@ pub mod Vectors
 pub mod Begun
 pub mod Verdict
 pub mod Inputs
+pub mod Stated

@@ -43,6 +43,7 @@ pub use input::Input;
 pub use inputs::{accepted_of, costed_of};
 pub use judging::{judge, judge_input};
 pub use migrating::migrate;
+pub use stated::keeps_to_stated;
 
 mod compile;
 mod end;
@@ -50,3 +51,4 @@ mod input;
 mod inputs;
 mod judging;
 mod migrating;
+mod stated;

@@ -1,17 +1,19 @@
 //! Runs over logs.
 
-ghost use Rattle.std.specs.Prelude.{◌≡◌, false, IfOk};
+ghost use Rattle.std.specs.Prelude.{◌≡◌, false, List, IfOk};
+ghost use Rattle.wsm_record.specs.Event.{Event};
 ghost use Rattle.wsm_turns.specs.Clocks.{AreClocks};
 ghost use Rattle.wsm_machine.specs.Meaning.{query_of};
 ghost use Rattle.wsm_intake.specs.Run.{LogCounted, LogWritten};
 ghost use Rattle.wsm_inputs.specs.declared.input.Input.{Input as AnyInput};
 ghost use Rattle.wsm_inputs.specs.Inputs.{EndsAs, IsAccepted};
+ghost use Rattle.wsm_inputs.specs.Stated.{KeepsTo};
 ghost use Rattle.wsm_log_run.specs.Logs.{LogStops, end_of_log, totals_in};
 
 use std::alloc::Global;
 use std::io::Read;
 use wsm_csv::Device;
-use wsm_inputs::End;
+use wsm_inputs::{End, keeps_to_stated};
 use wsm_intake::{Listener, LogTotals, run_log as run_intake};
 use wsm_lines::Source;
 use wsm_log_rows::LogEnd;
@@ -42,7 +44,9 @@ pub fn run_log<R: Read + Drop, D: Device, L: Listener>(
         EndsAs input (LogWritten (R.remaining reader) source clocks (D.taken out.old) (D.taken out.new)) (LogStops (R.remaining reader) source clocks (D.taken out.old) (D.taken out.new))
         (D.taken out.old) (D.taken out.new) (D.is_flushed out.new) (D.has_failed out.new) (totals_in result) }
     ensures counts { IfOk result (λ totals. LogCounted (R.remaining reader) source clocks (query_of verified) totals.counts) }
+    ensures stated { (past : List Event) (e : Event) → KeepsTo verified past e }
 {
+    keeps_to_stated(&verified);
     match run_intake(alloc, verified, source, clocks, reader, out, listener) {
         Ok(totals) => Ok(totals),
         Err(end) => Err(end_of_log(end)),

@@ -6,8 +6,8 @@ use Rattle.wsm_program.specs.Program.{Program}
 use Rattle.wsm_rules.specs.Costs.{needed}
 use Rattle.wsm_machine.specs.Meaning.{query_of}
 use Rattle.wsm_engine.specs.Laws.{RecordEnds}
-use Rattle.wsm.specs.Stated.{TakenEnds}
-use Rattle.wsm.proofs.run.keep_to_stated.Goals as goal
+use Rattle.wsm_inputs.specs.Stated.{TakenEnds}
+use Rattle.wsm_inputs.proofs.stated.keeps_to_stated.Goals as goal
 
 taken : (p : Program) → ((past : List Event) (key : ℕ) (time : ℤ) (values : List Value) → verdict_on (query_of p) past (Record (Some key) time values) ≡ None → RecordEnds p key values)
     → (past : List Event) (e : Event) → TakenEnds p past e
