@@ -1,15 +1,15 @@
 //! Instructions and sections.
 
-ghost use Rattle.std.specs.Prelude.{◌≡◌, nat_lt};
+ghost use Rattle.std.specs.Prelude.{◌≡◌, ◌<◌, ◌^◌, ℕ, nat_lt};
 ghost use Rattle.std.specs.Int.{w8};
 ghost use Rattle.wsm_program.specs.View.{header_of};
-ghost use Rattle.wsm_bytecode.specs.Steps.{judged, number_at, several};
+ghost use Rattle.wsm_bytecode.specs.Steps.{judged, number_at};
 ghost use Rattle.wsm_bytecode.specs.Reading.{Gives, push_int_at, push_bool_at, push_enum_at, index_at, target_at, comparison_at, number_field_at, field_test_at, test_at, test_by, instr_by, instr_at, code_at};
 ghost use Rattle.wsm_program.specs.declared.instr.Instr.TheVariants.{Field, Acc, Fold, Jump, JumpIfFalse};
 
 use crate::limits::MAX_SECTION;
 use crate::reading::header::enum_of;
-use crate::reading::numbers::{byte_of, i64_of, truth_of, u16_of, u16_within};
+use crate::reading::numbers::{byte_of, i64_of, several_of, truth_of, u16_of, u16_within};
 use crate::version::Version;
 use std::alloc::Global;
 use wsm_program::named::{has_name, is_number_field};
@@ -29,26 +29,7 @@ pub(crate) fn section_of<'a>(
     ensures { Gives (λ x. (x.0.items, x.1.now)) result (code_at version (header_of header.now) bytes.now) }
 {
     let (count, rest) = u16_within(bytes, 0, MAX_SECTION)?;
-    so_many_instrs(alloc, version, header, rest, count)
-}
-
-fn so_many_instrs<'a>(
-    alloc: Global,
-    version: Version,
-    header: &Header,
-    bytes: &'a [u8],
-    count: u16,
-) -> Result<(Section, &'a [u8]), DecodeRefusal>
-    ensures { Gives (λ x. (x.0.items, x.1.now)) result (several (instr_at version (header_of header.now)) count bytes.now) }
-{
-    let mut instrs = Vec::new(alloc);
-    let mut rest = bytes;
-    for _ in 0..count {
-        let (instr, after) = instr_of(version, header, rest)?;
-        instrs.push(instr)?;
-        rest = after;
-    }
-    Ok((instrs, rest))
+    several_of(alloc, rest, count, |rest| instr_of(version, header, rest))
 }
 
 #[tactic(auto, unfolding(crate::specs::Reading::instr_at))]
@@ -78,18 +59,18 @@ fn instr_of_opcode<'a>(
         Opcode::PushInt => push_int_of(bytes),
         Opcode::PushBool => push_bool_of(bytes),
         Opcode::PushEnum => push_enum_of(&header.schema, bytes),
-        Opcode::Field => field_of(header.schema.fields().len(), bytes),
+        Opcode::Field => index_of(header.schema.fields().len(), bytes, Instr::Field),
         Opcode::Key => Ok((Instr::Key, bytes)),
-        Opcode::Acc => acc_of(header.kinds.len(), bytes),
+        Opcode::Acc => index_of(header.kinds.len(), bytes, Instr::Acc),
         Opcode::Count => Ok((Instr::Count, bytes)),
         Opcode::Compute(arithmetic) => Ok((Instr::Compute(arithmetic), bytes)),
         Opcode::Neg => Ok((Instr::Neg, bytes)),
         Opcode::Compare(comparison) => Ok((Instr::Compare(comparison), bytes)),
         Opcode::Not => Ok((Instr::Not, bytes)),
-        Opcode::Jump => jump_of(bytes),
-        Opcode::JumpIfFalse => jump_if_false_of(bytes),
+        Opcode::Jump => target_of(bytes, Instr::Jump),
+        Opcode::JumpIfFalse => target_of(bytes, Instr::JumpIfFalse),
         Opcode::Test => test_in(version, &header.schema, bytes),
-        Opcode::Fold => fold_of(header.kinds.len(), bytes),
+        Opcode::Fold => index_of(header.kinds.len(), bytes, Instr::Fold),
         Opcode::Return => Ok((Instr::Return, bytes)),
     }
 }
@@ -123,44 +104,28 @@ fn push_enum_of<'a>(schema: &Schema, bytes: &'a [u8]) -> Result<(Instr, &'a [u8]
     Ok((Instr::PushEnum(number, name), rest))
 }
 
+// An instruction that names one of so many by its number.
 #[tactic(auto, unfolding(crate::specs::Reading::index_at))]
-fn field_of(count: usize, bytes: &[u8]) -> Result<(Instr, &[u8]), DecodeRefusal>
-    ensures { Gives (λ x. (x.0, x.1.now)) result (index_at count Field bytes.now) }
+fn index_of<F: Fn(u8) -> Instr>(
+    count: usize,
+    bytes: &[u8],
+    instr: F,
+) -> Result<(Instr, &[u8]), DecodeRefusal>
+    requires { F.IsAlwaysCallable instr }
+    ensures { (by : ℕ → Instr) → ((i : ℕ) (r : Instr) → i < 2 ^ 8 → F.post instr i r → r ≡ by i) → Gives (λ x. (x.0, x.1.now)) result (index_at count by bytes.now) }
 {
-    let (field, rest) = byte_below(bytes, count)?;
-    Ok((Instr::Field(field), rest))
+    let (index, rest) = byte_below(bytes, count)?;
+    Ok((instr(index), rest))
 }
 
-#[tactic(auto, unfolding(crate::specs::Reading::index_at))]
-fn acc_of(count: usize, bytes: &[u8]) -> Result<(Instr, &[u8]), DecodeRefusal>
-    ensures { Gives (λ x. (x.0, x.1.now)) result (index_at count Acc bytes.now) }
-{
-    let (accumulator, rest) = byte_below(bytes, count)?;
-    Ok((Instr::Acc(accumulator), rest))
-}
-
-#[tactic(auto, unfolding(crate::specs::Reading::index_at))]
-fn fold_of(count: usize, bytes: &[u8]) -> Result<(Instr, &[u8]), DecodeRefusal>
-    ensures { Gives (λ x. (x.0, x.1.now)) result (index_at count Fold bytes.now) }
-{
-    let (accumulator, rest) = byte_below(bytes, count)?;
-    Ok((Instr::Fold(accumulator), rest))
-}
-
+// An instruction that names a place.
 #[tactic(auto, unfolding(crate::specs::Reading::target_at))]
-fn jump_of(bytes: &[u8]) -> Result<(Instr, &[u8]), DecodeRefusal>
-    ensures { Gives (λ x. (x.0, x.1.now)) result (target_at Jump bytes.now) }
+fn target_of<F: Fn(u16) -> Instr>(bytes: &[u8], instr: F) -> Result<(Instr, &[u8]), DecodeRefusal>
+    requires { F.IsAlwaysCallable instr }
+    ensures { (by : ℕ → Instr) → ((i : ℕ) (r : Instr) → i < 2 ^ 16 → F.post instr i r → r ≡ by i) → Gives (λ x. (x.0, x.1.now)) result (target_at by bytes.now) }
 {
     let (target, rest) = u16_of(bytes)?;
-    Ok((Instr::Jump(target), rest))
-}
-
-#[tactic(auto, unfolding(crate::specs::Reading::target_at))]
-fn jump_if_false_of(bytes: &[u8]) -> Result<(Instr, &[u8]), DecodeRefusal>
-    ensures { Gives (λ x. (x.0, x.1.now)) result (target_at JumpIfFalse bytes.now) }
-{
-    let (target, rest) = u16_of(bytes)?;
-    Ok((Instr::JumpIfFalse(target), rest))
+    Ok((instr(target), rest))
 }
 
 // Version 1 has no test.

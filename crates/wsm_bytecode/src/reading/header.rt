@@ -2,12 +2,12 @@
 
 ghost use Rattle.std.specs.Prelude.{◌≡◌};
 ghost use Rattle.wsm_program.specs.View.{header_of as seen};
-ghost use Rattle.wsm_bytecode.specs.Steps.{several, enum_number_at, column_at, columns_at};
+ghost use Rattle.wsm_bytecode.specs.Steps.{enum_number_at, column_at, columns_at};
 ghost use Rattle.wsm_bytecode.specs.Reading.{Gives, back_seen, settings_seen, after_magic, version_at, settings_at, header_at, back_at};
 
 use crate::limits::{MAGIC, MAX_COLUMNS};
 use crate::reading::names::names_of;
-use crate::reading::numbers::{byte_of, byte_within};
+use crate::reading::numbers::{byte_of, byte_within, several_of};
 use crate::reading::schema::{fields_of, type_tag_of};
 use crate::reading::settings::{Settings, budget_of, kinds_of, times_of};
 use crate::reading::{version1, version2};
@@ -127,25 +127,12 @@ fn columns_of<'a>(
     ensures { Gives (λ x. (x.0.items, x.1.now)) result (columns_at schema.now bytes.now) }
 {
     let (count, rest) = byte_within(bytes, 1, MAX_COLUMNS)?;
-    so_many_columns(alloc, schema, rest, count)
-}
-
-fn so_many_columns<'a>(
-    alloc: Global,
-    schema: &Schema,
-    bytes: &'a [u8],
-    count: u8,
-) -> Result<(Vec<CellType>, &'a [u8]), DecodeRefusal>
-    ensures { Gives (λ x. (x.0.items, x.1.now)) result (several (column_at schema.now) count bytes.now) }
-{
-    let mut columns = Vec::new(alloc);
-    let mut rest = bytes;
-    for _ in 0..count {
-        let (column, after) = column_of(schema, rest)?;
-        columns.push(column)?;
-        rest = after;
-    }
-    Ok((columns, rest))
+    several_of(
+        alloc,
+        rest,
+        u16::from(count),
+        |rest| column_of(schema, rest),
+    )
 }
 
 #[tactic(auto, unfolding(crate::specs::Steps::column_at, crate::specs::Steps::enum_column_at))]

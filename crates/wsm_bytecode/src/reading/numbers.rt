@@ -2,13 +2,14 @@
 //!
 //! A reader answers what it read and the bytes after it, or the first fault.
 
-ghost use Rattle.std.specs.Prelude.{◌≡◌, ◌≤◌, IfOk};
+ghost use Rattle.std.specs.Prelude.{◌≡◌, ◌≤◌, ℕ, List, IfOk};
 ghost use Rattle.std.specs.Int.{w8, w16, w64};
 ghost use Rattle.wsm_record.specs.Name.{is_between};
 ghost use Rattle.wsm_record.specs.Schema.{is_within};
-ghost use Rattle.wsm_bytecode.specs.Steps.{number_at, signed_at, truth_at, judged};
+ghost use Rattle.wsm_bytecode.specs.Steps.{Read, number_at, signed_at, truth_at, judged, several};
 ghost use Rattle.wsm_bytecode.specs.Reading.{Gives};
 
+use std::alloc::Global;
 use wsm_program::DecodeRefusal;
 
 pub(crate) fn byte_of(bytes: &[u8]) -> Result<(u8, &[u8]), DecodeRefusal>
@@ -95,4 +96,25 @@ pub(crate) fn i64_within(bytes: &[u8], low: i64, high: i64) -> Result<(i64, &[u8
         return Err(DecodeRefusal::Operand);
     }
     Ok((number, rest))
+}
+
+/// So many values, one behind the other.
+pub(crate) fn several_of<'a, T: Drop, F: Fn(&'a [u8]) -> Result<(T, &'a [u8]), DecodeRefusal>>(
+    alloc: Global,
+    bytes: &'a [u8],
+    count: u16,
+    read: F,
+) -> Result<(Vec<T>, &'a [u8]), DecodeRefusal>
+    requires { F.IsAlwaysCallable read }
+    ensures { (one : List ℕ → Read T) → ((front : _) (r : _) → F.post read front r → Gives (λ x. (x.0, x.1.now)) r (one front.now)) →
+        Gives (λ x. (x.0.items, x.1.now)) result (several one count bytes.now) }
+{
+    let mut values = Vec::new(alloc);
+    let mut rest = bytes;
+    for _ in 0..count {
+        let (value, after) = read(rest)?;
+        values.push(value)?;
+        rest = after;
+    }
+    Ok((values, rest))
 }

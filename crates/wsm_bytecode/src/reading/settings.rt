@@ -1,11 +1,11 @@
 //! The parts of a header behind its fields, as far as they are the same in each version.
 
 ghost use Rattle.std.specs.Prelude.{◌≡◌, ◌≤◌};
-ghost use Rattle.wsm_bytecode.specs.Steps.{times_at, shape_by, windows_by, mode_at, triggers_at, form_of as form_by_mode, kind_at, kinds_at, several, budget_at};
+ghost use Rattle.wsm_bytecode.specs.Steps.{times_at, shape_by, windows_by, mode_at, triggers_at, form_of as form_by_mode, kind_at, kinds_at, budget_at};
 ghost use Rattle.wsm_bytecode.specs.Reading.{Gives, clock_of, settings_seen};
 
 use crate::limits::{LATEST_TIME, LONGEST_SPAN, MAX_ACCUMULATORS, MAX_HELD, MAX_STATED};
-use crate::reading::numbers::{byte_of, byte_within, i64_within, u64_within};
+use crate::reading::numbers::{byte_of, byte_within, i64_within, several_of, u64_within};
 use crate::tags::{form_by, kind_by, mode_by};
 use std::alloc::Global;
 use wsm_program::{Clock, Costs, DecodeRefusal};
@@ -157,24 +157,7 @@ pub(crate) fn kinds_of(alloc: Global, bytes: &[u8]) -> Result<(Vec<Kind>, &[u8])
     ensures { Gives (λ x. (x.0.items, x.1.now)) result (kinds_at bytes.now) }
 {
     let (count, rest) = byte_within(bytes, 0, MAX_ACCUMULATORS)?;
-    so_many_kinds(alloc, rest, count)
-}
-
-fn so_many_kinds(
-    alloc: Global,
-    bytes: &[u8],
-    count: u8,
-) -> Result<(Vec<Kind>, &[u8]), DecodeRefusal>
-    ensures { Gives (λ x. (x.0.items, x.1.now)) result (several kind_at count bytes.now) }
-{
-    let mut kinds = Vec::new(alloc);
-    let mut rest = bytes;
-    for _ in 0..count {
-        let (kind, after) = kind_of(rest)?;
-        kinds.push(kind)?;
-        rest = after;
-    }
-    Ok((kinds, rest))
+    several_of(alloc, rest, u16::from(count), |rest| kind_of(rest))
 }
 
 #[tactic(auto, unfolding(crate::specs::Steps::budget_at))]
