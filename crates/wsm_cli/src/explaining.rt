@@ -1,4 +1,4 @@
-//! What tools may ask of a query or a program.
+//! `wsm explain --json`: what tools may ask of a query or a program.
 
 use std::io;
 use std::rt::Files;

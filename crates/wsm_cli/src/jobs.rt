@@ -12,7 +12,8 @@ use wsm_row_jobs::{deal_or_tell, follow, keep};
 use wsm_run_job::{run, write_log_rows};
 use wsm_words::Job;
 
-/// Does the job; somebody may look at standard error meanwhile. It is false where a program was judged and rejected.
+/// Does the job. `is_looked_at` is whether standard error is a terminal: then how much of a log was read is told there. It is false
+/// where a program was judged and rejected.
 pub fn done<R: Files<File = File> + AllocGlobal + Input + Print + Eprint + Clock + Clone + Drop>(
     rt: &R,
     job: &Job,

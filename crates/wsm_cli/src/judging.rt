@@ -1,4 +1,4 @@
-//! What is written of the judgement of a program.
+//! `wsm verify` and `wsm explain`: what is written of the judgement of a program.
 
 use crate::explaining::tell;
 use crate::parted::tell_parts;

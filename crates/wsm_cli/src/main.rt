@@ -1,4 +1,4 @@
-//! The program `wsm`: runs a query or a program over rows, compiles a query, and judges a program.
+//! The program `wsm`: reads its words, and does the job that they ask for.
 //!
 //! Its status is 0 where it is done, also after help and the version, and 4 where `verify` or `explain`
 //! rejects a program. Each other status has one line on standard error, which begins with the program's name;
@@ -44,7 +44,7 @@ fn unread(error: &io::Error) -> Stop {
     }
 }
 
-// Does what the words ask for. Somebody may look at standard error meanwhile.
+// Does what the words ask for. `is_looked_at` is whether standard error is a terminal.
 fn act<R: Files<File = File> + AllocGlobal + Input + Print + Eprint + Clock + Clone + Drop>(
     rt: &R,
     words: &[String],

@@ -1,4 +1,4 @@
-//! What so many keys take.
+//! `wsm verify --keys`: what so many keys take.
 
 use std::io;
 use std::rt::Files;

@@ -1,4 +1,4 @@
-//! Programs that are written to files.
+//! `wsm compile` and `wsm migrate`: programs that are written to files.
 
 use std::fs::File;
 use std::rt::Files;

@@ -104,25 +104,25 @@ pub enum WordsFault {
     KeysAsPart(usize),
     /// An option takes a number, and has none.
     NoNumber(&'static str),
-    /// An identifier stands in no such cell.
+    /// `--once` has no number of a cell in which an identifier may stand.
     NoCell,
     /// No clocks are as the words say, or the query's SKEW is too small for them.
     NoClocks,
     /// The query has sources and none of them is named, or one is named that it hasn't.
     NoSource,
-    /// It goes on nowhere but at the beginning where lines are gone.
+    /// `--lost` has another word than `begin`: where lines are gone a run goes on nowhere else.
     NoPlace,
     /// A live run wants a source, a query and a log, and one that tells its position none of them.
     NoLive,
-    /// Standard input is renamed by nobody and loses no lines.
+    /// `--lost` or `--patience` goes with standard input, which nobody renames and which loses no lines.
     NoFile,
-    /// New names and their number are of names of a file.
+    /// `--new-keys` or `--most-keys` goes without a file of names.
     NoNames,
-    /// A program has its keys.
+    /// `--keys` goes with the bytes of a program, which has its keys.
     NotNamed,
-    /// The number of names is told, and none is new.
+    /// `--most-keys` goes without `--new-keys`.
     MostOfNone,
-    /// A source is judged of a query with its keys.
+    /// `verify` has both `--keys` and `--from`: a source is judged for a query with its keys.
     KeysOfSource,
 }
 

@@ -1,4 +1,4 @@
-//! What dealing does with files and standard input.
+//! `wsm deal`: what dealing does with files and standard input.
 
 ghost use Rattle.std.specs.Prelude.{ℕ, List, OnOk};
 ghost use Rattle.wsm_csv.specs.Records.{AreAll};

@@ -1,4 +1,4 @@
-//! What cutting rows does with files, standard input and standard output.
+//! `wsm keep`: what cutting rows does with files, standard input and standard output.
 
 use std::alloc::Global;
 use std::fs::File;
@@ -15,8 +15,11 @@ use wsm_words::KeepJob;
 // By what rows are cut, and which.
 struct Wanted {
     verified: Verified,
+    // Of the query's text or the program's bytes.
     sum: u64,
+    // How many lines were taken of what a run over the rows writes; all where it isn't said.
     taken: Option<u64>,
+    // How many bytes of the rows are looked at.
     most: u64,
 }
 

@@ -1,4 +1,4 @@
-//! Rows with watermarks among them: files, standard input and standard output.
+//! `wsm watermarks`: rows with watermarks among them, of files and standard input, to standard output.
 
 ghost use Rattle.std.specs.Prelude.{ℕ, List, Option, IfOk};
 ghost use Rattle.wsm_row_watermarks.specs.Run.{IsWritten, setting_by};

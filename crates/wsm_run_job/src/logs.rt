@@ -1,4 +1,4 @@
-//! What the jobs of the program do with the lines of logs.
+//! `wsm run --from` by the keys that a query declares, and `wsm rows`.
 
 ghost use Rattle.std.specs.Prelude.{ℕ, List, Option, OnOk};
 ghost use Rattle.wsm_log_rows.specs.Rows.{RowsWritten};
@@ -140,7 +140,7 @@ fn rows_over<R: AllocGlobal + Print, I: Read + Drop>(
     }
 }
 
-/// The file of a log, of which it is told how much was read.
+/// Opens the file of a log. Where somebody looks at standard error, how much of it was read is told there while that lasts.
 pub fn opened<'r, R: Files + Clock>(
     rt: &'r R,
     log: &String,

@@ -1,4 +1,4 @@
-//! Runs of a query or a program.
+//! `wsm run`: by the keys that a query declares or by any number of names, over rows or over a log.
 
 ghost use Rattle.std.specs.Prelude.{ℕ, List, Option, IfOk};
 ghost use Rattle.wsm_inputs.specs.Inputs.{Means};

@@ -1,2 +1,4 @@
 mod Plain
 mod Faults
+mod Lists
+mod Rules

@@ -1,9 +1,14 @@
 -- The command that the program has, and the job that a parse of its words asks for.
-use Rattle.std.specs.Prelude.{◌≡◌, ◌≢◌, List, [], Bool, true, false, Option, Some, None, Result, Ok, Err, String, codes, bytes_eq, if◌then◌else◌, option_map, string_bytes, ⊤}
-use Rattle.clap.specs.Words.{App, Row, Rule, Text, IsAmong, Kinds, first_of, kind_of, one_of, new_app, new_rule, with_rule, with_subcommand}
+use Rattle.std.specs.Prelude.{◌≡◌, ◌≢◌, ◌++◌, ◌∷◌, List, [], map, Bool, true, false, Option, Some, None, Result, Ok, Err, String, codes, bytes_eq, if◌then◌else◌, option_map, string_bytes, ⊤}
+use Rattle.clap.specs.Simple.{new_shape}
+use Rattle.clap.specs.Words.{App, Row, Rule, Shape, Text, IsAmong, Kinds, first_of, kind_of, one_of, new_app, new_rule, with_subcommand}
 use Rattle.clap.specs.declared.builder.ArgAction.TheVariants.{SetTrue}
 use Rattle.clap.specs.declared.error.Error.{Error}
 use Rattle.clap.specs.declared.error.kind.ErrorKind.TheVariants.{OutOfMemory}
+use Rattle.wsm_words.specs.declared.arguments.Argument.{Argument}
+use Rattle.wsm_words.specs.declared.arguments.Argument.TheVariants.{Flag, Valued, Needed, File, OtherFile, RowsFile}
+use Rattle.wsm_words.specs.declared.commands.Subcommand.{Subcommand}
+use Rattle.wsm_words.specs.declared.commands.Subcommand.TheVariants as sub
 use Rattle.wsm_words.specs.declared.job.Agreement.{Agreement}
 use Rattle.wsm_words.specs.declared.job.Named.{Named}
 use Rattle.wsm_words.specs.declared.job.Job.{Job}
@@ -12,140 +17,138 @@ use Rattle.wsm_words.specs.declared.refusal.WordsRefusal.{WordsRefusal}
 use Rattle.wsm_words.specs.declared.refusal.WordsRefusal.TheVariants.{Words, Memory}
 
 -- a file that has to be named
-abbrev pub file_rule : Text → Rule
+unfoldable pub file_rule : Text → Rule
 file_rule id = record (new_rule id) { value_names = 1; required = true }
 
 -- a file that may be named
-abbrev pub other_rule : Text → Rule
+unfoldable pub other_rule : Text → Rule
 other_rule id = record (new_rule id) { value_names = 1 }
 
 -- a flag, by its name
-abbrev pub flag_rule : Text → Rule
+unfoldable pub flag_rule : Text → Rule
 flag_rule name = record (new_rule name) { long = Some name; action = Some SetTrue }
 
 -- an option with one value, by its name
-abbrev pub option_rule : Text → Rule
+unfoldable pub option_rule : Text → Rule
 option_rule name = record (new_rule name) { long = Some name; value_names = 1 }
 
 -- an option that has to be given
-abbrev pub needed_rule : Text → Rule
+unfoldable pub needed_rule : Text → Rule
 needed_rule name = record (new_rule name) { long = Some name; value_names = 1; required = true }
 
 -- [ROWS]
-abbrev pub rows_rule : Rule
+unfoldable pub rows_rule : Rule
 rows_rule = record (new_rule (codes "rows")) { value_names = 1 }
 
--- run [--program] [--from SOURCE] [--metrics FILE]
-abbrev pub counting_app : App
-counting_app = with_rule (with_rule (with_rule (new_app (codes "run")) (flag_rule (codes "program"))) (option_rule (codes "from"))) (option_rule (codes "metrics"))
+-- what a command takes of these words
+abbrev pub rule_by : Argument → Rule
+rule_by (Flag name help) = flag_rule name.now
+rule_by (Valued name value help) = option_rule name.now
+rule_by (Needed name value help) = needed_rule name.now
+rule_by (File id name help) = file_rule id.now
+rule_by (OtherFile id name help) = other_rule id.now
+rule_by (RowsFile name help) = rows_rule
 
--- and with [--keys FILE] [--new-keys] [--most-keys N] QUERY [ROWS]
-abbrev pub run_app : App
-run_app =
-    with_rule (with_rule (with_rule (with_rule (with_rule counting_app (option_rule (codes "keys"))) (flag_rule (codes "new-keys"))) (option_rule (codes "most-keys")))
-    (file_rule (codes "query"))) rows_rule
+-- a command, and with rules behind those that it has
+abbrev pub with_rules : App → List Rule → App
+with_rules a rules = record a { top = record a.top { rules = a.top.rules ++ rules } }
+
+-- and with subcommands behind those that it has
+abbrev pub with_shapes : App → List Shape → App
+with_shapes a [] = a
+with_shapes a (shape ∷ shapes) = with_shapes (with_subcommand a shape) shapes
+
+-- run [--program] [--from SOURCE] [--metrics FILE] [--keys FILE] [--new-keys] [--most-keys N] QUERY [ROWS]
+abbrev pub run_shape : Shape
+run_shape = record (new_shape (codes "run")) {
+  rules =
+      flag_rule (codes "program") ∷ option_rule (codes "from") ∷ option_rule (codes "metrics") ∷ option_rule (codes "keys")
+      ∷ flag_rule (codes "new-keys") ∷ option_rule (codes "most-keys") ∷ file_rule (codes "query") ∷ rows_rule ∷ [];
+}
 
 -- compile QUERY OUT
-abbrev pub compile_app : App
-compile_app = with_rule (with_rule (new_app (codes "compile")) (file_rule (codes "query"))) (file_rule (codes "out"))
+abbrev pub compile_shape : Shape
+compile_shape = record (new_shape (codes "compile")) { rules = file_rule (codes "query") ∷ file_rule (codes "out") ∷ [] }
 
 -- migrate PROGRAM OUT
-abbrev pub migrate_app : App
-migrate_app = with_rule (with_rule (new_app (codes "migrate")) (file_rule (codes "program"))) (file_rule (codes "out"))
+abbrev pub migrate_shape : Shape
+migrate_shape = record (new_shape (codes "migrate")) { rules = file_rule (codes "program") ∷ file_rule (codes "out") ∷ [] }
 
 -- verify [--query] [--from SOURCE] [--keys N] PROGRAM
-abbrev pub verify_app : App
-verify_app =
-    with_rule (with_rule (with_rule (with_rule (new_app (codes "verify")) (flag_rule (codes "query"))) (option_rule (codes "from"))) (option_rule (codes "keys")))
-    (file_rule (codes "program"))
+abbrev pub verify_shape : Shape
+verify_shape = record (new_shape (codes "verify")) {
+  rules =
+      flag_rule (codes "query") ∷ option_rule (codes "from") ∷ option_rule (codes "keys") ∷ file_rule (codes "program") ∷ [];
+}
 
 -- explain [--json] [--query] PROGRAM
-abbrev pub explain_app : App
-explain_app = with_rule (with_rule (with_rule (new_app (codes "explain")) (flag_rule (codes "json"))) (flag_rule (codes "query"))) (file_rule (codes "program"))
-
--- deal [--keys-of] KEYS PARTS
-abbrev pub dealing_app : App
-dealing_app = with_rule (with_rule (with_rule (new_app (codes "deal")) (flag_rule (codes "keys-of"))) (file_rule (codes "keys"))) (file_rule (codes "parts"))
+abbrev pub explain_shape : Shape
+explain_shape = record (new_shape (codes "explain")) {
+  rules =
+      flag_rule (codes "json") ∷ flag_rule (codes "query") ∷ file_rule (codes "program") ∷ [];
+}
 
 -- deal [--keys-of] KEYS PARTS OUT [ROWS]
-abbrev pub deal_app : App
-deal_app = with_rule (with_rule dealing_app (file_rule (codes "out"))) rows_rule
+abbrev pub deal_shape : Shape
+deal_shape = record (new_shape (codes "deal")) {
+  rules =
+      flag_rule (codes "keys-of") ∷ file_rule (codes "keys") ∷ file_rule (codes "parts") ∷ file_rule (codes "out") ∷ rows_rule ∷ [];
+}
 
 -- rows [--program] SOURCE QUERY [ROWS]
-abbrev pub rows_app : App
-rows_app =
-    with_rule (with_rule (with_rule (with_rule (new_app (codes "rows")) (flag_rule (codes "program"))) (file_rule (codes "source"))) (file_rule (codes "query"))) rows_rule
-
--- keep [--program] [--taken LINES] [--most BYTES]
-abbrev pub keeping_app : App
-keeping_app = with_rule (with_rule (with_rule (new_app (codes "keep")) (flag_rule (codes "program"))) (option_rule (codes "taken"))) (option_rule (codes "most"))
+abbrev pub rows_shape : Shape
+rows_shape = record (new_shape (codes "rows")) {
+  rules =
+      flag_rule (codes "program") ∷ file_rule (codes "source") ∷ file_rule (codes "query") ∷ rows_rule ∷ [];
+}
 
 -- keep [--program] [--taken LINES] [--most BYTES] QUERY [ROWS]
-abbrev pub keep_app : App
-keep_app = with_rule (with_rule keeping_app (file_rule (codes "query"))) rows_rule
+abbrev pub keep_shape : Shape
+keep_shape = record (new_shape (codes "keep")) {
+  rules =
+      flag_rule (codes "program") ∷ option_rule (codes "taken") ∷ option_rule (codes "most") ∷ file_rule (codes "query") ∷ rows_rule ∷ [];
+}
 
--- watermarks [--program] [--agree K] --bound BOUND [--step STEP]
-abbrev pub agreeing_app : App
-agreeing_app =
-    with_rule (with_rule (with_rule (with_rule (new_app (codes "watermarks")) (flag_rule (codes "program"))) (option_rule (codes "agree"))) (needed_rule (codes "bound")))
-    (option_rule (codes "step"))
+-- watermarks [--program] [--agree K] --bound BOUND [--step STEP] [--forget N] [--room N] [--source NAME] [--once CELL] [--last] [--metrics FILE] QUERY [ROWS]
+abbrev pub watermarks_shape : Shape
+watermarks_shape = record (new_shape (codes "watermarks")) {
+  rules =
+      flag_rule (codes "program") ∷ option_rule (codes "agree") ∷ needed_rule (codes "bound") ∷ option_rule (codes "step")
+      ∷ option_rule (codes "forget") ∷ option_rule (codes "room") ∷ option_rule (codes "source") ∷ option_rule (codes "once") ∷ flag_rule (codes "last")
+      ∷ option_rule (codes "metrics") ∷ file_rule (codes "query") ∷ rows_rule ∷ [];
+}
 
--- the same with [--forget N] [--room N] [--source NAME] [--once CELL]
-abbrev pub waiting_app : App
-waiting_app =
-    with_rule (with_rule (with_rule (with_rule agreeing_app (option_rule (codes "forget"))) (option_rule (codes "room"))) (option_rule (codes "source"))) (option_rule (codes "once"))
+-- live [--program] [--from SOURCE] [--keys FILE] [--new-keys] [--most-keys N] [--lost WHERE] [--health FILE] [--patience SECONDS] [--cut BYTES] [--position] DIR [QUERY] [LOG]
+abbrev pub live_shape : Shape
+live_shape = record (new_shape (codes "live")) {
+  rules =
+      flag_rule (codes "program") ∷ option_rule (codes "from") ∷ option_rule (codes "keys") ∷ flag_rule (codes "new-keys")
+      ∷ option_rule (codes "most-keys") ∷ option_rule (codes "lost") ∷ option_rule (codes "health") ∷ option_rule (codes "patience")
+      ∷ option_rule (codes "cut") ∷ flag_rule (codes "position") ∷ file_rule (codes "dir") ∷ other_rule (codes "query") ∷ other_rule (codes "log") ∷ [];
+}
 
--- and with [--last] [--metrics FILE] QUERY [ROWS]
-abbrev pub watermarks_app : App
-watermarks_app = with_rule (with_rule (with_rule (with_rule waiting_app (flag_rule (codes "last"))) (option_rule (codes "metrics"))) (file_rule (codes "query"))) rows_rule
-
--- live [--program] [--from SOURCE] [--keys FILE] [--new-keys] [--most-keys N]
-abbrev pub lines_app : App
-lines_app =
-    with_rule (with_rule (with_rule (with_rule (with_rule (new_app (codes "live")) (flag_rule (codes "program"))) (option_rule (codes "from"))) (option_rule (codes "keys")))
-    (flag_rule (codes "new-keys"))) (option_rule (codes "most-keys"))
-
--- and with [--lost WHERE] [--health FILE] [--patience SECONDS]
-abbrev pub following_app : App
-following_app = with_rule (with_rule (with_rule lines_app (option_rule (codes "lost"))) (option_rule (codes "health"))) (option_rule (codes "patience"))
-
--- and with [--cut BYTES] [--position] DIR [QUERY] [LOG]
-abbrev pub live_app : App
-live_app =
-    with_rule (with_rule (with_rule (with_rule (with_rule following_app (option_rule (codes "cut"))) (flag_rule (codes "position"))) (file_rule (codes "dir"))) (other_rule (codes "query")))
-    (other_rule (codes "log"))
+-- a subcommand
+abbrev pub shape_by : Subcommand → Shape
+shape_by sub.Run = run_shape
+shape_by sub.Compile = compile_shape
+shape_by sub.Migrate = migrate_shape
+shape_by sub.Verify = verify_shape
+shape_by sub.Explain = explain_shape
+shape_by sub.Deal = deal_shape
+shape_by sub.Rows = rows_shape
+shape_by sub.Keep = keep_shape
+shape_by sub.Watermarks = watermarks_shape
+shape_by sub.Live = live_shape
 
 -- the program's command, which wants a subcommand and tells its version
 abbrev pub required_app : App
 required_app = let a = new_app (codes "wsm") in record a { top = record a.top { has_version = true; subcommand_required = true } }
 
--- with the subcommands that take a query
-abbrev pub query_app : App
-query_app = with_subcommand (with_subcommand required_app run_app.top) compile_app.top
-
--- with those that take a query or write a program
-abbrev pub writing_app : App
-writing_app = with_subcommand query_app migrate_app.top
-
--- with those that take a query, write a program or judge one
-abbrev pub judging_apps : App
-judging_apps = with_subcommand (with_subcommand writing_app verify_app.top) explain_app.top
-
--- with those that deal or write rows, too
-abbrev pub row_apps : App
-row_apps = with_subcommand (with_subcommand judging_apps deal_app.top) rows_app.top
-
--- and with the one that cuts rows
-abbrev pub cutting_apps : App
-cutting_apps = with_subcommand row_apps keep_app.top
-
--- and with the one that writes watermarks
-abbrev pub marking_apps : App
-marking_apps = with_subcommand cutting_apps watermarks_app.top
-
--- and with the one that follows a log: all of them
+-- with its subcommands
 abbrev pub the_app : App
-the_app = with_subcommand marking_apps live_app.top
+the_app =
+    with_shapes required_app
+    (run_shape ∷ compile_shape ∷ migrate_shape ∷ verify_shape ∷ explain_shape ∷ deal_shape ∷ rows_shape ∷ keep_shape ∷ watermarks_shape ∷ live_shape ∷ [])
 
 -- what a flag's text says: one of these, or there is none
 abbrev pub SaysFlag : Option Text → Bool → Type 0

@@ -1,8 +1,8 @@
 //! The program's command, with its subcommands.
 
-ghost use Rattle.std.specs.Prelude.{◌≡◌, IfOk};
-ghost use Rattle.clap.specs.Words.{app_of};
-ghost use Rattle.wsm_words.specs.Words.{the_app, query_app, required_app, judging_apps, writing_app, row_apps, cutting_apps, marking_apps};
+ghost use Rattle.std.specs.Prelude.{◌≡◌, map, IfOk};
+ghost use Rattle.clap.specs.Words.{app_of, shape_of};
+ghost use Rattle.wsm_words.specs.Words.{the_app, required_app, shape_by, with_shapes};
 
 pub mod compile;
 pub mod deal;
@@ -30,74 +30,82 @@ use crate::help;
 use clap::Command;
 use std::alloc::{AllocError, Global};
 
+/// A subcommand.
+#[derive(Clone, Copy)]
+pub enum Subcommand {
+    Run,
+    Compile,
+    Migrate,
+    Verify,
+    Explain,
+    Deal,
+    Rows,
+    Keep,
+    Watermarks,
+    Live,
+}
+
+// All of them, as the help lists them.
+const SUBCOMMANDS: [Subcommand; 10] = [
+    Subcommand::Run,
+    Subcommand::Compile,
+    Subcommand::Migrate,
+    Subcommand::Verify,
+    Subcommand::Explain,
+    Subcommand::Deal,
+    Subcommand::Rows,
+    Subcommand::Keep,
+    Subcommand::Watermarks,
+    Subcommand::Live,
+];
+
 /// The program's command, with its subcommands.
 pub fn wsm_command<'a>(alloc: Global, version: &'a str) -> Result<Command<'a>, AllocError>
     ensures { IfOk result (λ c. app_of c ≡ the_app) }
 {
-    let wsm = marking_commands(alloc, version)?.subcommand(live_command(alloc)?)?;
+    let wsm = with_subcommands(alloc, required_command(alloc, version)?, &SUBCOMMANDS)?;
     Ok(wsm)
 }
 
-// The program's command, with all its subcommands but the one that follows a log.
-fn marking_commands<'a>(alloc: Global, version: &'a str) -> Result<Command<'a>, AllocError>
-    ensures { IfOk result (λ c. app_of c ≡ marking_apps) }
+// The command, and with these subcommands, in their order.
+fn with_subcommands<'a>(
+    alloc: Global,
+    command: Command<'a>,
+    subcommands: &[Subcommand],
+) -> Result<Command<'a>, AllocError>
+    ensures { IfOk result (λ c. app_of c ≡ with_shapes (app_of command.entry) (map shape_by subcommands.now)) }
 {
-    let wsm = cutting_commands(alloc, version)?.subcommand(watermarks_command(alloc)?)?;
-    Ok(wsm)
+    let mut command = command;
+    for subcommand in subcommands {
+        command = command.subcommand(command_of(alloc, *subcommand)?)?;
+    }
+    Ok(command)
 }
 
-// The program's command, with the subcommands that take a query, write a program, judge one, or deal, write or cut rows.
-fn cutting_commands<'a>(alloc: Global, version: &'a str) -> Result<Command<'a>, AllocError>
-    ensures { IfOk result (λ c. app_of c ≡ cutting_apps) }
+fn command_of<'a>(alloc: Global, subcommand: Subcommand) -> Result<Command<'a>, AllocError>
+    ensures { IfOk result (λ c. shape_of c ≡ shape_by subcommand) }
 {
-    let wsm = row_commands(alloc, version)?.subcommand(keep_command(alloc)?)?;
-    Ok(wsm)
-}
-
-// The program's command, with the subcommands that take a query, write a program, judge one, or deal or write rows.
-fn row_commands<'a>(alloc: Global, version: &'a str) -> Result<Command<'a>, AllocError>
-    ensures { IfOk result (λ c. app_of c ≡ row_apps) }
-{
-    let wsm = judging_commands(alloc, version)?
-        .subcommand(deal_command(alloc)?)?
-        .subcommand(rows_command(alloc)?)?;
-    Ok(wsm)
-}
-
-// The program's command, with the subcommands that take a query, write a program or judge one.
-fn judging_commands<'a>(alloc: Global, version: &'a str) -> Result<Command<'a>, AllocError>
-    ensures { IfOk result (λ c. app_of c ≡ judging_apps) }
-{
-    let wsm = writing_command(alloc, version)?
-        .subcommand(verify_command(alloc)?)?
-        .subcommand(explain_command(alloc)?)?;
-    Ok(wsm)
-}
-
-// The program's command, with the subcommands that take a query or write a program.
-fn writing_command<'a>(alloc: Global, version: &'a str) -> Result<Command<'a>, AllocError>
-    ensures { IfOk result (λ c. app_of c ≡ writing_app) }
-{
-    let wsm = query_command(alloc, version)?.subcommand(migrate_command(alloc)?)?;
-    Ok(wsm)
-}
-
-// The program's command, with the subcommands that take a query.
-fn query_command<'a>(alloc: Global, version: &'a str) -> Result<Command<'a>, AllocError>
-    ensures { IfOk result (λ c. app_of c ≡ query_app) }
-{
-    let wsm = required_command(alloc, version)?
-        .subcommand(run_command(alloc)?)?
-        .subcommand(compile_command(alloc)?)?;
-    Ok(wsm)
+    match subcommand {
+        Subcommand::Run => run_command(alloc),
+        Subcommand::Compile => compile_command(alloc),
+        Subcommand::Migrate => migrate_command(alloc),
+        Subcommand::Verify => verify_command(alloc),
+        Subcommand::Explain => explain_command(alloc),
+        Subcommand::Deal => deal_command(alloc),
+        Subcommand::Rows => rows_command(alloc),
+        Subcommand::Keep => keep_command(alloc),
+        Subcommand::Watermarks => watermarks_command(alloc),
+        Subcommand::Live => live_command(alloc),
+    }
 }
 
 // The program's command, which wants a subcommand and tells its version.
 fn required_command<'a>(alloc: Global, version: &'a str) -> Result<Command<'a>, AllocError>
     ensures { IfOk result (λ c. app_of c ≡ required_app) }
 {
-    command(alloc, "wsm", help::ABOUT, help::EXAMPLE)
+    let wsm = command(alloc, "wsm", help::ABOUT, help::EXAMPLE)
         .version(version)
         .subcommand_required(true)
-        .bin_name("wsm")
+        .bin_name("wsm")?;
+    Ok(wsm)
 }

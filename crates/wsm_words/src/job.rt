@@ -61,7 +61,7 @@ pub struct RunJob {
 }
 
 /// Which keys a query without a KEYS clause has, each number as the words say it.
-#[derive(Debug, Drop)]
+#[derive(Debug)]
 pub struct Named {
     /// The file of the names; none where the query's text has the keys.
     pub file: Option<String>,
@@ -69,6 +69,16 @@ pub struct Named {
     pub takes_new: bool,
     /// How many there may be; as many as there is memory for where it isn't said.
     pub most: Option<String>,
+}
+
+impl Drop for Named {
+    fn drop(self) {
+        let Named {
+            file: _,
+            takes_new: _,
+            most: _,
+        } = self;
+    }
 }
 
 /// To write the program of a query.
@@ -178,7 +188,7 @@ pub struct WatermarksJob {
 }
 
 /// By which agreement of clocks watermarks are written, each number as the words say it.
-#[derive(Debug, Drop)]
+#[derive(Debug)]
 pub struct Agreement {
     /// How many clocks have to agree.
     pub agree: Option<String>,
@@ -190,6 +200,18 @@ pub struct Agreement {
     pub forget: Option<String>,
     /// How many records may wait.
     pub room: Option<String>,
+}
+
+impl Drop for Agreement {
+    fn drop(self) {
+        let Agreement {
+            agree: _,
+            bound: _,
+            step: _,
+            forget: _,
+            room: _,
+        } = self;
+    }
 }
 
 /// To follow a log as it grows, and hand out lines with their numbers; or to tell how far that went.

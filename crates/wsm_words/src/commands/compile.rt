@@ -1,10 +1,10 @@
 //! The command `compile`.
 
 ghost use Rattle.std.specs.Prelude.{◌≡◌, IfOk, IfErr, codes};
-ghost use Rattle.clap.specs.Words.{app_of, found_of, rows_of as entries_of};
-ghost use Rattle.wsm_words.specs.Words.{compile_app, IsJob, IsMemory};
+ghost use Rattle.clap.specs.Words.{found_of, rows_of as entries_of, shape_of};
+ghost use Rattle.wsm_words.specs.Words.{compile_shape, IsJob, IsMemory};
 
-use crate::arguments::{command, file};
+use crate::arguments::{Argument, command, with_arguments};
 use crate::entries::file_of;
 use crate::help;
 use crate::job::{CompileJob, Job};
@@ -14,11 +14,16 @@ use std::alloc::{AllocError, Global};
 
 /// `compile QUERY OUT`
 pub fn compile_command<'a>(alloc: Global) -> Result<Command<'a>, AllocError>
-    ensures { IfOk result (λ c. app_of c ≡ compile_app) }
+    ensures { IfOk result (λ c. shape_of c ≡ compile_shape) }
 {
-    let compile = command(alloc, "compile", help::COMPILE, help::COMPILE_EXAMPLE)
-        .arg(file(alloc, "query", "QUERY", help::QUERY))?
-        .arg(file(alloc, "out", "OUT", help::OUT))?;
+    let compile = with_arguments(
+        alloc,
+        command(alloc, "compile", help::COMPILE, help::COMPILE_EXAMPLE),
+        &[
+            Argument::File("query", "QUERY", help::QUERY),
+            Argument::File("out", "OUT", help::OUT),
+        ],
+    )?;
     Ok(compile)
 }
 

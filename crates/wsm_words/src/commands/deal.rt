@@ -1,10 +1,10 @@
 //! The command `deal`.
 
 ghost use Rattle.std.specs.Prelude.{◌≡◌, IfOk, IfErr, codes};
-ghost use Rattle.clap.specs.Words.{app_of, found_of, rows_of as entries_of};
-ghost use Rattle.wsm_words.specs.Words.{dealing_app, deal_app, IsJob, IsMemory};
+ghost use Rattle.clap.specs.Words.{found_of, rows_of as entries_of, shape_of};
+ghost use Rattle.wsm_words.specs.Words.{deal_shape, IsJob, IsMemory};
 
-use crate::arguments::{command, file, flag, rows_file};
+use crate::arguments::{Argument, command, with_arguments};
 use crate::entries::{file_of, flag_of, rows_in};
 use crate::help;
 use crate::job::{DealJob, Job};
@@ -14,22 +14,19 @@ use std::alloc::{AllocError, Global};
 
 /// `deal [--keys-of] KEYS PARTS OUT [ROWS]`
 pub fn deal_command<'a>(alloc: Global) -> Result<Command<'a>, AllocError>
-    ensures { IfOk result (λ c. app_of c ≡ deal_app) }
+    ensures { IfOk result (λ c. shape_of c ≡ deal_shape) }
 {
-    let deal = dealing_command(alloc)?
-        .arg(file(alloc, "out", "OUT", help::PARTS_OUT))?
-        .arg(rows_file(alloc, "ROWS", help::ROWS))?;
-    Ok(deal)
-}
-
-// `deal [--keys-of] KEYS PARTS`
-fn dealing_command<'a>(alloc: Global) -> Result<Command<'a>, AllocError>
-    ensures { IfOk result (λ c. app_of c ≡ dealing_app) }
-{
-    let deal = command(alloc, "deal", help::DEAL, help::DEAL_EXAMPLE)
-        .arg(flag(alloc, "keys-of", help::IS_CLAUSE))?
-        .arg(file(alloc, "keys", "KEYS", help::KEYS))?
-        .arg(file(alloc, "parts", "PARTS", help::PARTS))?;
+    let deal = with_arguments(
+        alloc,
+        command(alloc, "deal", help::DEAL, help::DEAL_EXAMPLE),
+        &[
+            Argument::Flag("keys-of", help::IS_CLAUSE),
+            Argument::File("keys", "KEYS", help::KEYS),
+            Argument::File("parts", "PARTS", help::PARTS),
+            Argument::File("out", "OUT", help::PARTS_OUT),
+            Argument::RowsFile("ROWS", help::ROWS),
+        ],
+    )?;
     Ok(deal)
 }
 

@@ -1,10 +1,10 @@
 //! The command `explain`.
 
 ghost use Rattle.std.specs.Prelude.{◌≡◌, IfOk, IfErr, codes};
-ghost use Rattle.clap.specs.Words.{app_of, found_of, rows_of as entries_of};
-ghost use Rattle.wsm_words.specs.Words.{explain_app, IsJob, IsMemory};
+ghost use Rattle.clap.specs.Words.{found_of, rows_of as entries_of, shape_of};
+ghost use Rattle.wsm_words.specs.Words.{explain_shape, IsJob, IsMemory};
 
-use crate::arguments::{command, file, flag};
+use crate::arguments::{Argument, command, with_arguments};
 use crate::entries::{file_of, flag_of};
 use crate::help;
 use crate::job::{ExplainJob, Job};
@@ -14,12 +14,17 @@ use std::alloc::{AllocError, Global};
 
 /// `explain [--json] [--query] PROGRAM`
 pub fn explain_command<'a>(alloc: Global) -> Result<Command<'a>, AllocError>
-    ensures { IfOk result (λ c. app_of c ≡ explain_app) }
+    ensures { IfOk result (λ c. shape_of c ≡ explain_shape) }
 {
-    let explain = command(alloc, "explain", help::EXPLAIN, help::EXPLAIN_EXAMPLE)
-        .arg(flag(alloc, "json", help::IS_JSON))?
-        .arg(flag(alloc, "query", help::IS_QUERY))?
-        .arg(file(alloc, "program", "PROGRAM", help::PROGRAM_OR_QUERY))?;
+    let explain = with_arguments(
+        alloc,
+        command(alloc, "explain", help::EXPLAIN, help::EXPLAIN_EXAMPLE),
+        &[
+            Argument::Flag("json", help::IS_JSON),
+            Argument::Flag("query", help::IS_QUERY),
+            Argument::File("program", "PROGRAM", help::PROGRAM_OR_QUERY),
+        ],
+    )?;
     Ok(explain)
 }
 

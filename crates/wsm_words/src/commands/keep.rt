@@ -1,10 +1,10 @@
 //! The command `keep`.
 
 ghost use Rattle.std.specs.Prelude.{◌≡◌, IfOk, IfErr, codes};
-ghost use Rattle.clap.specs.Words.{app_of, found_of, rows_of as entries_of};
-ghost use Rattle.wsm_words.specs.Words.{keeping_app, keep_app, IsJob, IsMemory};
+ghost use Rattle.clap.specs.Words.{found_of, rows_of as entries_of, shape_of};
+ghost use Rattle.wsm_words.specs.Words.{keep_shape, IsJob, IsMemory};
 
-use crate::arguments::{command, file, flag, option, rows_file};
+use crate::arguments::{Argument, command, with_arguments};
 use crate::entries::{file_of, flag_of, option_of, rows_in};
 use crate::help;
 use crate::job::{Job, KeepJob};
@@ -14,22 +14,19 @@ use std::alloc::{AllocError, Global};
 
 /// `keep [--program] [--taken LINES] [--most BYTES] QUERY [ROWS]`
 pub fn keep_command<'a>(alloc: Global) -> Result<Command<'a>, AllocError>
-    ensures { IfOk result (λ c. app_of c ≡ keep_app) }
+    ensures { IfOk result (λ c. shape_of c ≡ keep_shape) }
 {
-    let keep = keeping_command(alloc)?
-        .arg(file(alloc, "query", "QUERY", help::QUERY_OR_PROGRAM))?
-        .arg(rows_file(alloc, "ROWS", help::KEPT_ROWS))?;
-    Ok(keep)
-}
-
-// `keep [--program] [--taken LINES] [--most BYTES]`
-fn keeping_command<'a>(alloc: Global) -> Result<Command<'a>, AllocError>
-    ensures { IfOk result (λ c. app_of c ≡ keeping_app) }
-{
-    let keep = command(alloc, "keep", help::KEEP, help::KEEP_EXAMPLE)
-        .arg(flag(alloc, "program", help::IS_PROGRAM))?
-        .arg(option(alloc, "taken", "LINES", help::TAKEN))?
-        .arg(option(alloc, "most", "BYTES", help::MOST))?;
+    let keep = with_arguments(
+        alloc,
+        command(alloc, "keep", help::KEEP, help::KEEP_EXAMPLE),
+        &[
+            Argument::Flag("program", help::IS_PROGRAM),
+            Argument::Valued("taken", "LINES", help::TAKEN),
+            Argument::Valued("most", "BYTES", help::MOST),
+            Argument::File("query", "QUERY", help::QUERY_OR_PROGRAM),
+            Argument::RowsFile("ROWS", help::KEPT_ROWS),
+        ],
+    )?;
     Ok(keep)
 }
 

@@ -1,10 +1,11 @@
 //! The command `live`.
 
 ghost use Rattle.std.specs.Prelude.{◌≡◌, IfOk, IfErr, codes};
-ghost use Rattle.clap.specs.Words.{app_of, found_of, rows_of as entries_of};
-ghost use Rattle.wsm_words.specs.Words.{following_app, live_app, lines_app, IsJob, IsMemory};
+ghost use Rattle.clap.specs.Words.{found_of, rows_of as entries_of, shape_of};
+ghost use Rattle.wsm_words.specs.Following.{IsFollowed, IsFollowing};
+ghost use Rattle.wsm_words.specs.Words.{live_shape, IsJob, IsMemory};
 
-use crate::arguments::{command, file, flag, option, other_file};
+use crate::arguments::{Argument, command, with_arguments};
 use crate::entries::{file_of, flag_of, named_in, option_of};
 use crate::help;
 use crate::job::{Job, LiveJob};
@@ -15,39 +16,44 @@ use std::alloc::{AllocError, Global};
 /// `live [--program] [--from SOURCE] [--keys FILE] [--new-keys] [--most-keys N] [--lost WHERE] [--health FILE] [--patience SECONDS]
 /// [--cut BYTES] [--position] DIR [QUERY] [LOG]`
 pub fn live_command<'a>(alloc: Global) -> Result<Command<'a>, AllocError>
-    ensures { IfOk result (λ c. app_of c ≡ live_app) }
+    ensures { IfOk result (λ c. shape_of c ≡ live_shape) }
 {
-    let live = following_command(alloc)?
-        .arg(option(alloc, "cut", "BYTES", help::CUT))?
-        .arg(flag(alloc, "position", help::POSITION))?
-        .arg(file(alloc, "dir", "DIR", help::DIR))?
-        .arg(other_file(alloc, "query", "QUERY", help::QUERY_OR_PROGRAM))?
-        .arg(other_file(alloc, "log", "LOG", help::GROWING_LOG))?;
+    let live = with_arguments(
+        alloc,
+        command(alloc, "live", help::LIVE, help::LIVE_EXAMPLE),
+        &[
+            Argument::Flag("program", help::IS_PROGRAM),
+            Argument::Valued("from", "SOURCE", help::SOURCE),
+            Argument::Valued("keys", "FILE", help::NAMES),
+            Argument::Flag("new-keys", help::TAKES_NEW),
+            Argument::Valued("most-keys", "N", help::MOST_KEYS),
+            Argument::Valued("lost", "WHERE", help::LOST),
+            Argument::Valued("health", "FILE", help::HEALTH),
+            Argument::Valued("patience", "SECONDS", help::PATIENCE),
+            Argument::Valued("cut", "BYTES", help::CUT),
+            Argument::Flag("position", help::POSITION),
+            Argument::File("dir", "DIR", help::DIR),
+            Argument::OtherFile("query", "QUERY", help::QUERY_OR_PROGRAM),
+            Argument::OtherFile("log", "LOG", help::GROWING_LOG),
+        ],
+    )?;
     Ok(live)
 }
 
-// `live [--program] [--from SOURCE] [--keys FILE] [--new-keys] [--most-keys N] [--lost WHERE] [--health FILE] [--patience SECONDS]`
-fn following_command<'a>(alloc: Global) -> Result<Command<'a>, AllocError>
-    ensures { IfOk result (λ c. app_of c ≡ following_app) }
-{
-    let live = lines_command(alloc)?
-        .arg(option(alloc, "lost", "WHERE", help::LOST))?
-        .arg(option(alloc, "health", "FILE", help::HEALTH))?
-        .arg(option(alloc, "patience", "SECONDS", help::PATIENCE))?;
-    Ok(live)
+// How a log is followed.
+struct Following {
+    lost: Option<String>,
+    health: Option<String>,
+    patience: Option<String>,
+    cut: Option<String>,
 }
 
-// `live [--program] [--from SOURCE] [--keys FILE] [--new-keys] [--most-keys N]`
-fn lines_command<'a>(alloc: Global) -> Result<Command<'a>, AllocError>
-    ensures { IfOk result (λ c. app_of c ≡ lines_app) }
-{
-    let live = command(alloc, "live", help::LIVE, help::LIVE_EXAMPLE)
-        .arg(flag(alloc, "program", help::IS_PROGRAM))?
-        .arg(option(alloc, "from", "SOURCE", help::SOURCE))?
-        .arg(option(alloc, "keys", "FILE", help::NAMES))?
-        .arg(flag(alloc, "new-keys", help::TAKES_NEW))?
-        .arg(option(alloc, "most-keys", "N", help::MOST_KEYS))?;
-    Ok(live)
+// What is followed, and where.
+#[derive(Drop)]
+struct Followed {
+    dir: String,
+    query: Option<String>,
+    log: Option<String>,
 }
 
 /// The job of the words behind `live`.
@@ -56,16 +62,18 @@ pub fn live_job(alloc: Global, inner: &ArgMatches<'_>) -> Result<Job, WordsRefus
     ensures refused { IfErr result IsMemory }
 {
     let program = flag_of(inner, "program");
+    let position = flag_of(inner, "position");
     let from = option_of(alloc, inner, "from")?;
     let keys = named_in(alloc, inner)?;
-    let lost = option_of(alloc, inner, "lost")?;
-    let health = option_of(alloc, inner, "health")?;
-    let patience = option_of(alloc, inner, "patience")?;
-    let cut = option_of(alloc, inner, "cut")?;
-    let position = flag_of(inner, "position");
-    let dir = file_of(alloc, inner, "dir")?;
-    let query = option_of(alloc, inner, "query")?;
-    let log = option_of(alloc, inner, "log")?;
+    let followed = followed_of(alloc, inner)?;
+    let following = following_of(alloc, inner)?;
+    let Following {
+        lost,
+        health,
+        patience,
+        cut,
+    } = following;
+    let Followed { dir, query, log } = followed;
     Ok(Job::Live(LiveJob {
         program,
         from,
@@ -79,4 +87,32 @@ pub fn live_job(alloc: Global, inner: &ArgMatches<'_>) -> Result<Job, WordsRefus
         query,
         log,
     }))
+}
+
+// How a log is followed, by a parse.
+fn following_of(alloc: Global, inner: &ArgMatches<'_>) -> Result<Following, WordsRefusal>
+    ensures following { IfOk result (IsFollowing (entries_of (found_of inner.now))) }
+    ensures refused { IfErr result IsMemory }
+{
+    let lost = option_of(alloc, inner, "lost")?;
+    let health = option_of(alloc, inner, "health")?;
+    let patience = option_of(alloc, inner, "patience")?;
+    let cut = option_of(alloc, inner, "cut")?;
+    Ok(Following {
+        lost,
+        health,
+        patience,
+        cut,
+    })
+}
+
+// What is followed, and where, by a parse.
+fn followed_of(alloc: Global, inner: &ArgMatches<'_>) -> Result<Followed, WordsRefusal>
+    ensures followed { IfOk result (IsFollowed (entries_of (found_of inner.now))) }
+    ensures refused { IfErr result IsMemory }
+{
+    let dir = file_of(alloc, inner, "dir")?;
+    let query = option_of(alloc, inner, "query")?;
+    let log = option_of(alloc, inner, "log")?;
+    Ok(Followed { dir, query, log })
 }

@@ -1,10 +1,10 @@
 //! The command `migrate`.
 
 ghost use Rattle.std.specs.Prelude.{◌≡◌, IfOk, IfErr, codes};
-ghost use Rattle.clap.specs.Words.{app_of, found_of, rows_of as entries_of};
-ghost use Rattle.wsm_words.specs.Words.{migrate_app, IsJob, IsMemory};
+ghost use Rattle.clap.specs.Words.{found_of, rows_of as entries_of, shape_of};
+ghost use Rattle.wsm_words.specs.Words.{migrate_shape, IsJob, IsMemory};
 
-use crate::arguments::{command, file};
+use crate::arguments::{Argument, command, with_arguments};
 use crate::entries::file_of;
 use crate::help;
 use crate::job::{Job, MigrateJob};
@@ -14,11 +14,16 @@ use std::alloc::{AllocError, Global};
 
 /// `migrate PROGRAM OUT`
 pub fn migrate_command<'a>(alloc: Global) -> Result<Command<'a>, AllocError>
-    ensures { IfOk result (λ c. app_of c ≡ migrate_app) }
+    ensures { IfOk result (λ c. shape_of c ≡ migrate_shape) }
 {
-    let migrate = command(alloc, "migrate", help::MIGRATE, help::MIGRATE_EXAMPLE)
-        .arg(file(alloc, "program", "PROGRAM", help::PROGRAM))?
-        .arg(file(alloc, "out", "OUT", help::OUT))?;
+    let migrate = with_arguments(
+        alloc,
+        command(alloc, "migrate", help::MIGRATE, help::MIGRATE_EXAMPLE),
+        &[
+            Argument::File("program", "PROGRAM", help::PROGRAM),
+            Argument::File("out", "OUT", help::OUT),
+        ],
+    )?;
     Ok(migrate)
 }
 

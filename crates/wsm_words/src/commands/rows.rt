@@ -1,10 +1,10 @@
 //! The command `rows`.
 
 ghost use Rattle.std.specs.Prelude.{◌≡◌, IfOk, IfErr, codes};
-ghost use Rattle.clap.specs.Words.{app_of, found_of, rows_of as entries_of};
-ghost use Rattle.wsm_words.specs.Words.{rows_app, IsJob, IsMemory};
+ghost use Rattle.clap.specs.Words.{found_of, rows_of as entries_of, shape_of};
+ghost use Rattle.wsm_words.specs.Words.{rows_shape, IsJob, IsMemory};
 
-use crate::arguments::{command, file, flag, rows_file};
+use crate::arguments::{Argument, command, with_arguments};
 use crate::entries::{file_of, flag_of, rows_in};
 use crate::help;
 use crate::job::{Job, RowsJob};
@@ -14,13 +14,18 @@ use std::alloc::{AllocError, Global};
 
 /// `rows [--program] SOURCE QUERY [LOG]`
 pub fn rows_command<'a>(alloc: Global) -> Result<Command<'a>, AllocError>
-    ensures { IfOk result (λ c. app_of c ≡ rows_app) }
+    ensures { IfOk result (λ c. shape_of c ≡ rows_shape) }
 {
-    let rows = command(alloc, "rows", help::LOG_ROWS, help::LOG_ROWS_EXAMPLE)
-        .arg(flag(alloc, "program", help::IS_PROGRAM))?
-        .arg(file(alloc, "source", "SOURCE", help::SOURCE))?
-        .arg(file(alloc, "query", "QUERY", help::QUERY_OR_PROGRAM))?
-        .arg(rows_file(alloc, "LOG", help::LOG))?;
+    let rows = with_arguments(
+        alloc,
+        command(alloc, "rows", help::LOG_ROWS, help::LOG_ROWS_EXAMPLE),
+        &[
+            Argument::Flag("program", help::IS_PROGRAM),
+            Argument::File("source", "SOURCE", help::SOURCE),
+            Argument::File("query", "QUERY", help::QUERY_OR_PROGRAM),
+            Argument::RowsFile("LOG", help::LOG),
+        ],
+    )?;
     Ok(rows)
 }
 

@@ -1,10 +1,10 @@
 //! The command `run`.
 
 ghost use Rattle.std.specs.Prelude.{◌≡◌, IfOk, IfErr, codes};
-ghost use Rattle.clap.specs.Words.{app_of, found_of, rows_of as entries_of};
-ghost use Rattle.wsm_words.specs.Words.{counting_app, run_app, IsJob, IsMemory};
+ghost use Rattle.clap.specs.Words.{found_of, rows_of as entries_of, shape_of};
+ghost use Rattle.wsm_words.specs.Words.{run_shape, IsJob, IsMemory};
 
-use crate::arguments::{command, file, flag, option, rows_file};
+use crate::arguments::{Argument, command, with_arguments};
 use crate::entries::{file_of, flag_of, named_in, option_of, rows_in};
 use crate::help;
 use crate::job::{Job, RunJob};
@@ -14,25 +14,22 @@ use std::alloc::{AllocError, Global};
 
 /// `run [--program] [--from SOURCE] [--metrics FILE] [--keys FILE] [--new-keys] [--most-keys N] QUERY [ROWS]`
 pub fn run_command<'a>(alloc: Global) -> Result<Command<'a>, AllocError>
-    ensures { IfOk result (λ c. app_of c ≡ run_app) }
+    ensures { IfOk result (λ c. shape_of c ≡ run_shape) }
 {
-    let run = counting_command(alloc)?
-        .arg(option(alloc, "keys", "FILE", help::NAMES))?
-        .arg(flag(alloc, "new-keys", help::TAKES_NEW))?
-        .arg(option(alloc, "most-keys", "N", help::MOST_KEYS))?
-        .arg(file(alloc, "query", "QUERY", help::QUERY_OR_PROGRAM))?
-        .arg(rows_file(alloc, "ROWS", help::ROWS))?;
-    Ok(run)
-}
-
-// `run [--program] [--from SOURCE] [--metrics FILE]`
-fn counting_command<'a>(alloc: Global) -> Result<Command<'a>, AllocError>
-    ensures { IfOk result (λ c. app_of c ≡ counting_app) }
-{
-    let run = command(alloc, "run", help::RUN, help::RUN_EXAMPLE)
-        .arg(flag(alloc, "program", help::IS_PROGRAM))?
-        .arg(option(alloc, "from", "SOURCE", help::FROM))?
-        .arg(option(alloc, "metrics", "FILE", help::METRICS))?;
+    let run = with_arguments(
+        alloc,
+        command(alloc, "run", help::RUN, help::RUN_EXAMPLE),
+        &[
+            Argument::Flag("program", help::IS_PROGRAM),
+            Argument::Valued("from", "SOURCE", help::FROM),
+            Argument::Valued("metrics", "FILE", help::METRICS),
+            Argument::Valued("keys", "FILE", help::NAMES),
+            Argument::Flag("new-keys", help::TAKES_NEW),
+            Argument::Valued("most-keys", "N", help::MOST_KEYS),
+            Argument::File("query", "QUERY", help::QUERY_OR_PROGRAM),
+            Argument::RowsFile("ROWS", help::ROWS),
+        ],
+    )?;
     Ok(run)
 }
 

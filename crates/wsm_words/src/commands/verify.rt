@@ -1,10 +1,10 @@
 //! The command `verify`.
 
 ghost use Rattle.std.specs.Prelude.{◌≡◌, IfOk, IfErr, codes};
-ghost use Rattle.clap.specs.Words.{app_of, found_of, rows_of as entries_of};
-ghost use Rattle.wsm_words.specs.Words.{verify_app, IsJob, IsMemory};
+ghost use Rattle.clap.specs.Words.{found_of, rows_of as entries_of, shape_of};
+ghost use Rattle.wsm_words.specs.Words.{verify_shape, IsJob, IsMemory};
 
-use crate::arguments::{command, file, flag, option};
+use crate::arguments::{Argument, command, with_arguments};
 use crate::entries::{file_of, flag_of, option_of};
 use crate::help;
 use crate::job::{Job, VerifyJob};
@@ -14,13 +14,18 @@ use std::alloc::{AllocError, Global};
 
 /// `verify [--query] [--from SOURCE] [--keys N] PROGRAM`
 pub fn verify_command<'a>(alloc: Global) -> Result<Command<'a>, AllocError>
-    ensures { IfOk result (λ c. app_of c ≡ verify_app) }
+    ensures { IfOk result (λ c. shape_of c ≡ verify_shape) }
 {
-    let verify = command(alloc, "verify", help::VERIFY, help::VERIFY_EXAMPLE)
-        .arg(flag(alloc, "query", help::IS_QUERY))?
-        .arg(option(alloc, "from", "SOURCE", help::FITS))?
-        .arg(option(alloc, "keys", "N", help::KEY_COUNT))?
-        .arg(file(alloc, "program", "PROGRAM", help::PROGRAM_OR_QUERY))?;
+    let verify = with_arguments(
+        alloc,
+        command(alloc, "verify", help::VERIFY, help::VERIFY_EXAMPLE),
+        &[
+            Argument::Flag("query", help::IS_QUERY),
+            Argument::Valued("from", "SOURCE", help::FITS),
+            Argument::Valued("keys", "N", help::KEY_COUNT),
+            Argument::File("program", "PROGRAM", help::PROGRAM_OR_QUERY),
+        ],
+    )?;
     Ok(verify)
 }
 

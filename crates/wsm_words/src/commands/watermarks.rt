@@ -1,10 +1,10 @@
 //! The command `watermarks`.
 
 ghost use Rattle.std.specs.Prelude.{◌≡◌, IfOk, IfErr, codes};
-ghost use Rattle.clap.specs.Words.{app_of, found_of, rows_of as entries_of};
-ghost use Rattle.wsm_words.specs.Words.{agreeing_app, waiting_app, watermarks_app, IsAgreement, IsJob, IsMemory};
+ghost use Rattle.clap.specs.Words.{found_of, rows_of as entries_of, shape_of};
+ghost use Rattle.wsm_words.specs.Words.{watermarks_shape, IsAgreement, IsJob, IsMemory};
 
-use crate::arguments::{command, file, flag, needed, option, rows_file};
+use crate::arguments::{Argument, command, with_arguments};
 use crate::entries::{file_of, flag_of, option_of, rows_in};
 use crate::help;
 use crate::job::{Agreement, Job, WatermarksJob};
@@ -15,42 +15,31 @@ use std::alloc::{AllocError, Global};
 /// `watermarks [--program] [--agree K] --bound BOUND [--step STEP] [--forget N] [--room N] [--source NAME] [--once CELL] [--last]
 /// [--metrics FILE] QUERY [ROWS]`
 pub fn watermarks_command<'a>(alloc: Global) -> Result<Command<'a>, AllocError>
-    ensures { IfOk result (λ c. app_of c ≡ watermarks_app) }
+    ensures { IfOk result (λ c. shape_of c ≡ watermarks_shape) }
 {
-    let watermarks = waiting_command(alloc)?
-        .arg(flag(alloc, "last", help::LAST))?
-        .arg(option(alloc, "metrics", "FILE", help::METRICS))?
-        .arg(file(alloc, "query", "QUERY", help::QUERY_OR_PROGRAM))?
-        .arg(rows_file(alloc, "ROWS", help::ROWS))?;
-    Ok(watermarks)
-}
-
-// `watermarks [--program] [--agree K] --bound BOUND [--step STEP] [--forget N] [--room N] [--source NAME] [--once CELL]`
-fn waiting_command<'a>(alloc: Global) -> Result<Command<'a>, AllocError>
-    ensures { IfOk result (λ c. app_of c ≡ waiting_app) }
-{
-    let watermarks = agreeing_command(alloc)?
-        .arg(option(alloc, "forget", "N", help::FORGET))?
-        .arg(option(alloc, "room", "N", help::ROOM))?
-        .arg(option(alloc, "source", "NAME", help::MARK_SOURCE))?
-        .arg(option(alloc, "once", "CELL", help::ONCE))?;
-    Ok(watermarks)
-}
-
-// `watermarks [--program] [--agree K] --bound BOUND [--step STEP]`
-fn agreeing_command<'a>(alloc: Global) -> Result<Command<'a>, AllocError>
-    ensures { IfOk result (λ c. app_of c ≡ agreeing_app) }
-{
-    let watermarks = command(
+    let watermarks = with_arguments(
         alloc,
-        "watermarks",
-        help::WATERMARKS,
-        help::WATERMARKS_EXAMPLE,
-    )
-    .arg(flag(alloc, "program", help::IS_PROGRAM))?
-    .arg(option(alloc, "agree", "K", help::AGREE))?
-    .arg(needed(alloc, "bound", "BOUND", help::BOUND))?
-    .arg(option(alloc, "step", "STEP", help::STEP))?;
+        command(
+            alloc,
+            "watermarks",
+            help::WATERMARKS,
+            help::WATERMARKS_EXAMPLE,
+        ),
+        &[
+            Argument::Flag("program", help::IS_PROGRAM),
+            Argument::Valued("agree", "K", help::AGREE),
+            Argument::Needed("bound", "BOUND", help::BOUND),
+            Argument::Valued("step", "STEP", help::STEP),
+            Argument::Valued("forget", "N", help::FORGET),
+            Argument::Valued("room", "N", help::ROOM),
+            Argument::Valued("source", "NAME", help::MARK_SOURCE),
+            Argument::Valued("once", "CELL", help::ONCE),
+            Argument::Flag("last", help::LAST),
+            Argument::Valued("metrics", "FILE", help::METRICS),
+            Argument::File("query", "QUERY", help::QUERY_OR_PROGRAM),
+            Argument::RowsFile("ROWS", help::ROWS),
+        ],
+    )?;
     Ok(watermarks)
 }
 

@@ -1,9 +1,10 @@
-use Rattle.std.proofs.Common.{◌∙◌, ap, ap₂}
-use Rattle.clap.specs.Words.{App, with_subcommand}
-use Rattle.wsm_words.proofs.Plain.{third_fails}
+use Rattle.std.proofs.Common.{◌∷◌, ◌∙◌, [], ap}
+use Rattle.clap.specs.Words.{App}
+use Rattle.wsm_words.specs.Words.{compile_shape, deal_shape, explain_shape, keep_shape, live_shape, migrate_shape, rows_shape, run_shape, verify_shape, watermarks_shape, with_shapes}
 use Rattle.wsm_words.proofs.commands.wsm_command.Goals as goal
 
 pub returns : goal.returns
 returns c =
-    let live_is = c.in_ok-live_command.ensures in
-    c.in_ok-wsm.ensures.shape (third_fails _ _ _ _ (ap (λ (a : App). a.top.is_plain) live_is)) ∙ ap₂ with_subcommand c.in_ok-marking_commands.ensures (ap (λ (a : App). a.top) live_is)
+    c.in_ok-wsm.ensures
+    ∙ ap (λ (a : App). with_shapes a (run_shape ∷ compile_shape ∷ migrate_shape ∷ verify_shape ∷ explain_shape ∷ deal_shape ∷ rows_shape ∷ keep_shape ∷ watermarks_shape ∷ live_shape ∷ []))
+    c.in_ok-required_command.ensures

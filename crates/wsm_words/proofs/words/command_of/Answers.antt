@@ -2,16 +2,16 @@ use Rattle.std.proofs.lemmas.Result.{err_from_is_err_and}
 use Rattle.std.proofs.Common.{◌≡◌, ◌∙◌, subst, sym, ap, refl, true, map, List, Option, IfOk}
 use Rattle.clap.specs.Words.{App, HasKind, Row, Text, fault_of, is_simple, is_simple_and_free, subcommand_of, takes}
 use Rattle.clap.proofs.OnLiterals.{clap_on_literals}
-use Rattle.wsm_words.specs.Words.{the_app, IsJobOf}
+use Rattle.wsm_words.specs.Words.{the_app, file_rule, flag_rule, needed_rule, option_rule, other_rule, rows_rule, IsJobOf}
 use Rattle.wsm_words.proofs.Faults.{told_memory, told_fault, no_fault}
 use Rattle.wsm_words.proofs.words.command_of.Goals as goal
 
 simple : is_simple the_app ≡ true
-unfolding clap_on_literals
+unfolding clap_on_literals file_rule flag_rule needed_rule option_rule other_rule rows_rule
 simple = refl
 
 free : is_simple_and_free the_app ≡ true
-unfolding clap_on_literals
+unfolding clap_on_literals file_rule flag_rule needed_rule option_rule other_rule rows_rule
 free = refl
 
 pub returns-clause-job : goal.returns-clause-job

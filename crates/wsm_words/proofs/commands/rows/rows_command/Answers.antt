@@ -1,10 +1,7 @@
-use Rattle.std.proofs.Common.{◌∙◌, ap₂}
-use Rattle.clap.specs.Words.{with_rule}
+use Rattle.std.proofs.Common.{◌∙◌, ap}
+use Rattle.clap.specs.Words.{App}
+use Rattle.wsm_words.specs.Words.{rows_shape, with_rules}
 use Rattle.wsm_words.proofs.commands.rows.rows_command.Goals as goal
 
 pub returns : goal.returns
-returns c =
-    let flagged = c.in_ok-arg.ensures.shape c.flag.ensures.local ∙ ap₂ with_rule c.command.ensures c.flag.ensures.rule in
-    let sourced = c.in_ok-arg-2.ensures.shape c.file.ensures.local ∙ ap₂ with_rule flagged c.file.ensures.rule in
-    let named = c.in_ok-arg-3.ensures.shape c.file-2.ensures.local ∙ ap₂ with_rule sourced c.file-2.ensures.rule in
-    c.in_ok-rows.ensures.shape c.rows_file.ensures.local ∙ ap₂ with_rule named c.rows_file.ensures.rule
+returns c = ap (λ (a : App). a.top) (c.in_ok-rows.ensures ∙ ap (λ (a : App). with_rules a rows_shape.rules) c.command.ensures)

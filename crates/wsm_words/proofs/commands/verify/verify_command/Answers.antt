@@ -1,10 +1,7 @@
-use Rattle.std.proofs.Common.{◌∙◌, ap₂}
-use Rattle.clap.specs.Words.{with_rule}
+use Rattle.std.proofs.Common.{◌∙◌, ap}
+use Rattle.clap.specs.Words.{App}
+use Rattle.wsm_words.specs.Words.{verify_shape, with_rules}
 use Rattle.wsm_words.proofs.commands.verify.verify_command.Goals as goal
 
 pub returns : goal.returns
-returns c =
-    let flagged = c.in_ok-arg.ensures.shape c.flag.ensures.local ∙ ap₂ with_rule c.command.ensures c.flag.ensures.rule in
-    let sourced = c.in_ok-arg-2.ensures.shape c.option.ensures.local ∙ ap₂ with_rule flagged c.option.ensures.rule in
-    let keyed = c.in_ok-arg-3.ensures.shape c.option-2.ensures.local ∙ ap₂ with_rule sourced c.option-2.ensures.rule in
-    c.in_ok-verify.ensures.shape c.file.ensures.local ∙ ap₂ with_rule keyed c.file.ensures.rule
+returns c = ap (λ (a : App). a.top) (c.in_ok-verify.ensures ∙ ap (λ (a : App). with_rules a verify_shape.rules) c.command.ensures)

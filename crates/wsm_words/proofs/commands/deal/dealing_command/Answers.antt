@@ -1,9 +1,0 @@
-use Rattle.std.proofs.Common.{◌∙◌, ap₂}
-use Rattle.clap.specs.Words.{with_rule}
-use Rattle.wsm_words.proofs.commands.deal.dealing_command.Goals as goal
-
-pub returns : goal.returns
-returns c =
-    let flagged = c.in_ok-arg.ensures.shape c.flag.ensures.local ∙ ap₂ with_rule c.command.ensures c.flag.ensures.rule in
-    let keyed = c.in_ok-arg-2.ensures.shape c.file.ensures.local ∙ ap₂ with_rule flagged c.file.ensures.rule in
-    c.in_ok-deal.ensures.shape c.file-2.ensures.local ∙ ap₂ with_rule keyed c.file-2.ensures.rule
