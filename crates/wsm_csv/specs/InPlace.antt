@@ -12,3 +12,8 @@ values_in (Watermark source time) = []
 abbrev pub room_in : Event → ℕ → ℕ
 room_in (Record key time values) spare = vec_capacity values
 room_in (Watermark source time) spare = spare
+
+-- for how many values there is room beside that: in the spare vector, where the record has its own
+abbrev pub spare_in : Event → ℕ → ℕ
+spare_in (Record key time values) spare = spare
+spare_in (Watermark source time) spare = 0

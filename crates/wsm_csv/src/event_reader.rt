@@ -5,7 +5,7 @@ ghost use Rattle.csv.specs.Records.{fields_of};
 ghost use Rattle.wsm_record.specs.Event.{Record, event_of};
 ghost use Rattle.wsm_admission.specs.Clock.{fits_declared};
 ghost use Rattle.wsm_csv.specs.Cells.{record_of, watermark_of};
-ghost use Rattle.wsm_csv.specs.InPlace.{room_in, values_in};
+ghost use Rattle.wsm_csv.specs.InPlace.{room_in, spare_in, values_in};
 ghost use Rattle.wsm_csv.specs.KeyedRows.{said_from};
 ghost use Rattle.wsm_csv.specs.Refused.{IfFault};
 
@@ -45,11 +45,12 @@ impl EventReader {
     ghost use Rattle.wsm_csv.specs.Cells.{event_of_cells, record_tag};
     ghost use Rattle.wsm_csv.specs.KeyedRows.{event_as, said_from};
     ghost use Rattle.wsm_csv.specs.Refused.{IfFault};
-    ghost use Rattle.wsm_csv.specs.EventReader.{event_read, fits_read, room_of};
+    ghost use Rattle.wsm_csv.specs.EventReader.{event_read, fits_read, room_of, spare_of};
 
     /// A reader that has read no row. A record without values stands there.
     pub fn new(alloc: Global) -> EventReader
-        ensures { event_read result ≡ Record None (pos 0) [] }
+        ensures event { event_read result ≡ Record None (pos 0) [] }
+        ensures room { (room_of result ≡ 0) × (spare_of result ≡ 0) }
     {
         EventReader {
             event: Event::Record {
@@ -65,7 +66,8 @@ impl EventReader {
 
     /// Reads the event of a row, as [`read_row`](crate::read_row) does. Where there is room for a value
     /// of each field no memory is asked for, and no room is given back; else there is room for these
-    /// and no more. After a refusal any event stands there.
+    /// and no more. A second vector beside the record's gets no more room. After a refusal any event stands there.
+    #[inline(always)]
     pub fn read(&mut self, schema: &Schema, row: &ByteRecord) -> Result<(), RowRefusal>
         ensures event { OnOk result (event_of_cells schema.now (fields_of row.now) ≡ Ok (event_read self.new)) }
         ensures fits { OnOk result (fits_read self.new ≡ fits_declared schema.now (event_read self.new)) }
@@ -74,6 +76,7 @@ impl EventReader {
         ensures room { length schema.now.fields ≤ room_of self.old → result ≢ Err RowRefusal.Memory }
         ensures kept { room_of self.old ≤ room_of self.new }
         ensures few { room_of self.new ≤ max (room_of self.old) (length schema.now.fields) }
+        ensures spare { spare_of self.new ≤ spare_of self.old }
     {
         self.read_from(schema, row, KeyFrom::Cell)
     }
@@ -92,6 +95,7 @@ impl EventReader {
         ensures room { length schema.now.fields ≤ room_of self.old → result ≢ Err RowRefusal.Memory }
         ensures kept { room_of self.old ≤ room_of self.new }
         ensures few { room_of self.new ≤ max (room_of self.old) (length schema.now.fields) }
+        ensures spare { spare_of self.new ≤ spare_of self.old }
     {
         self.read_from(schema, row, KeyFrom::Number(key))
     }
@@ -111,6 +115,7 @@ impl EventReader {
         ensures room { length schema.now.fields ≤ room_of self.old → result ≢ Err RowRefusal.Memory }
         ensures kept { room_of self.old ≤ room_of self.new }
         ensures few { room_of self.new ≤ max (room_of self.old) (length schema.now.fields) }
+        ensures spare { spare_of self.new ≤ spare_of self.old }
     {
         match read_tag(row) {
             Some(Tag::Record) => {
@@ -174,6 +179,7 @@ fn read_record(
     ensures room { length schema.now.fields ≤ room_in event.old (vec_capacity spare.old) → result ≢ Err RowRefusal.Memory }
     ensures kept { room_in event.old (vec_capacity spare.old) ≤ room_in event.new (vec_capacity spare.new) }
     ensures few { room_in event.new (vec_capacity spare.new) ≤ max (room_in event.old (vec_capacity spare.old)) (length schema.now.fields) }
+    ensures spare { spare_in event.new (vec_capacity spare.new) ≤ spare_in event.old (vec_capacity spare.old) }
 {
     let fields = schema.fields();
     if row.len() != RECORD_HEAD + fields.len() {
@@ -200,6 +206,7 @@ fn read_record(
 fn begin_record(event: &mut Event, spare: &mut Vec<Value>, key: Option<u32>, time: i64)
     ensures begun { event_of event.new ≡ Record key time (values_in event.new) }
     ensures room { room_in event.new (vec_capacity spare.new) ≡ room_in event.old (vec_capacity spare.old) }
+    ensures spare { spare_in event.new (vec_capacity spare.new) ≤ spare_in event.old (vec_capacity spare.old) }
 {
     match event {
         Event::Record { key: place, .. } => *place = key,
@@ -219,7 +226,6 @@ fn begin_record(event: &mut Event, spare: &mut Vec<Value>, key: Option<u32>, tim
 
 // Reads a watermark in place of an event, whose vector is then the spare one if it was a record.
 #[cold]
-#[inline(never)]
 fn read_watermark(
     schema: &Schema,
     row: &ByteRecord,
@@ -229,6 +235,7 @@ fn read_watermark(
     ensures event { OnOk result (watermark_of schema.now (drop 1 (fields_of row.now)) ≡ Ok (event_of event.new)) }
     ensures fault { IfErr result (λ f. watermark_of schema.now (drop 1 (fields_of row.now)) ≡ Err f) }
     ensures kept { room_in event.new (vec_capacity spare.new) ≡ room_in event.old (vec_capacity spare.old) }
+    ensures spare { spare_in event.new (vec_capacity spare.new) ≤ spare_in event.old (vec_capacity spare.old) }
 {
     let mark = read_mark(schema.sources(), row)?;
     if let Event::Record { values, .. } = mem::replace(event, mark) {

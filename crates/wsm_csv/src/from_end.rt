@@ -57,7 +57,6 @@ fn write_negative(number: i64, cells: &mut [u8], end: usize) -> usize
 }
 
 /// Writes a text so that it ends at a place, and tells where it begins.
-#[inline(always)]
 pub(crate) fn write_text(text: &[u8], cells: &mut [u8], end: usize) -> usize
     requires room { length text.now ≤ end }
     requires within { end ≤ length cells.old }

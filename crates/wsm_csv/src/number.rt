@@ -65,7 +65,6 @@ impl Eight {
     }
 
     // What eight bytes stand for, where they are these digits.
-    #[inline(always)]
     fn read(&self, bytes: [u8; AT_ONCE]) -> Option<u64>
         ensures value { IfSome result (λ n. AreDigitsOf bytes n) }
         ensures below { IfSome result (λ n. n < 10 ^ AT_ONCE) }
@@ -98,7 +97,6 @@ impl Fronts {
 
     /// The number that a cell writes, as [`read_number`] reads it. Of eight digits or more the first eight
     /// are read at once, which pays where most numbers are that long.
-    #[inline(always)]
     pub(crate) fn read_number(&mut self, cell: &[u8]) -> Option<i64>
         ensures { result ≡ number_of cell.now }
     {
@@ -134,7 +132,6 @@ impl Fronts {
 
     // What eight digits or more stand for, where they are few enough for 64 bits, and the first eight are
     // known. No answer tells nothing of the cell.
-    #[inline(always)]
     fn known_magnitude(&self, cell: &[u8]) -> Option<u64>
         ensures value { IfSome result (λ n. magnitude_of cell.now ≡ Some n) }
         ensures below { IfSome result (λ n. n < 10 ^ SHORT) }
@@ -149,7 +146,6 @@ impl Fronts {
     }
 
     // The same where they aren't known. They are then.
-    #[inline(always)]
     fn new_magnitude(&mut self, cell: &[u8]) -> Option<u64>
         ensures value { IfSome result (λ n. magnitude_of cell.now ≡ Some n) }
         ensures below { IfSome result (λ n. n < 10 ^ SHORT) }
@@ -164,7 +160,6 @@ impl Fronts {
     }
 
     // What eight bytes stand for, where they are known.
-    #[inline(always)]
     fn known(&self, bytes: [u8; AT_ONCE]) -> Option<u64>
         ensures value { IfSome result (λ n. AreDigitsOf bytes n) }
         ensures below { IfSome result (λ n. n < 10 ^ AT_ONCE) }
@@ -191,7 +186,6 @@ impl Fronts {
 }
 
 // What eight bytes stand for, where all are digits.
-#[inline(always)]
 fn eight_digits(bytes: [u8; AT_ONCE]) -> Option<u64>
     ensures value { IfSome result (λ n. AreDigitsOf bytes n) }
     ensures below { IfSome result (λ n. n < 10 ^ AT_ONCE) }
@@ -212,7 +206,6 @@ fn eight_digits(bytes: [u8; AT_ONCE]) -> Option<u64>
 }
 
 // What so few digits stand for. No step goes past 64 bits.
-#[inline(always)]
 fn short_magnitude(digits: &[u8]) -> Option<u64>
     requires { length digits.now ≤ SHORT }
     ensures value { result ≡ magnitude_of digits.now }
@@ -225,7 +218,6 @@ fn short_magnitude(digits: &[u8]) -> Option<u64>
 }
 
 // What digits stand for behind a number, where they are so few that no step goes past 64 bits.
-#[inline(always)]
 fn magnitude_from(front: u64, digits: &[u8]) -> Option<u64>
     requires few { length digits.now ≤ SHORT }
     requires front { front < 10 ^ (SHORT - length digits.now) }
@@ -244,7 +236,6 @@ fn magnitude_from(front: u64, digits: &[u8]) -> Option<u64>
 }
 
 // How far a byte is above the digit 0: at most 9 for digits alone.
-#[inline(always)]
 fn above_zero(byte: u8) -> u64
     ensures digit { is_digit byte ≡ nat_le result 9 }
     ensures value { result ≤ 9 → result ≡ byte - 48 }

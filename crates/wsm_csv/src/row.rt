@@ -150,7 +150,6 @@ pub(crate) fn read_values(
 }
 
 // Has there be so many values, whatever they are, and room for no more than there was, or for these.
-#[inline(always)]
 fn fit(values: &mut Vec<Value>, count: usize) -> Result<(), AllocError>
     ensures count { OnOk result (length values.new.items ≡ count) }
     ensures room { count ≤ vec_capacity values.old → IsOk result }

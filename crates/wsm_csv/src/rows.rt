@@ -46,8 +46,9 @@ impl<R: Read + Drop> Rows<R> {
         }
     }
 
-    /// Reads the next row, and answers whether there was one. After an error there is none, and what
-    /// `csv` said is kept: a failed read is told where it said so, and nowhere else.
+    /// Reads the next row, and answers whether there was one. After an error there is none, and it is
+    /// kept: a failed read is told where that is one of a read, and want of memory else. `csv` has no
+    /// clause on when it answers which, so none ties what is told to what happened: tests do.
     pub fn advance(&mut self) -> Result<bool, ReadEnd>
         ensures advances { (known : Option (List ℕ)) (rows : List (List (List ℕ))) → Follows R.remaining known rows self.old →
             Advances R.remaining known rows self.new result }
@@ -81,13 +82,11 @@ impl<R: Read + Drop> Rows<R> {
 
     /// What the rows are read from. Where it is ahead of [`Rows::place`], the reader has bytes that no
     /// row took yet.
-    #[inline(always)]
     pub fn source(&self) -> &R {
         self.reader.get_ref()
     }
 
     /// How many bytes the rows so far took.
-    #[inline(always)]
     pub fn place(&self) -> u64 {
         self.reader.position().byte()
     }

@@ -109,7 +109,6 @@ fn no_window() -> WindowText {
 }
 
 // The line of a row. The text is that of the window that was written last.
-#[inline(always)]
 fn add_line(
     schema: &Schema,
     row: &OutRow,
@@ -122,7 +121,6 @@ fn add_line(
 }
 
 // The name of the key of a row, or no byte.
-#[inline(always)]
 fn name_of<'a>(schema: &'a Schema, row: &OutRow) -> &'a [u8]
     ensures { result.now ≡ key_text schema.now.keys row.now }
 {

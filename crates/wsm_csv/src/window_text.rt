@@ -49,7 +49,6 @@ impl WindowText {
     }
 
     /// Has it be the text of a window.
-    #[inline(always)]
     pub(crate) fn set(&mut self, window: Window)
         ensures { self.new ≡ window }
     {
@@ -69,7 +68,6 @@ impl WindowText {
 
     /// Writes the text so that it ends at a place, and tells where it begins. The places in front of it
     /// may be written too, as many as the longest text has.
-    #[inline(always)]
     pub(crate) fn write(&self, cells: &mut [u8], end: usize) -> usize
         requires room { WINDOW ≤ end }
         requires within { end ≤ length cells.old }

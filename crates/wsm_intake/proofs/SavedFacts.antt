@@ -1,6 +1,8 @@
 -- What an intake has come to, as a text.
-use Rattle.std.proofs.Common.{◌≡◌, ◌∙◌, ◌++◌, ◌<◌, ◌-◌, ◌^◌, ℕ, List, [], length, Option, None, Some, refl, subst, arith}
-use Rattle.std.specs.Prelude.{IsTrue, unsigned_abs}
+use Rattle.std.proofs.Common.{◌≡◌, ◌∙◌, ◌++◌, ◌+◌, ◌<◌, ◌-◌, ◌^◌, ℕ, suc, List, [], ◌∷◌, length, Option, None, Some, true, refl, ap, subst, arith}
+use Rattle.std.proofs.lemmas.Bool.{lt-ltb}
+use Rattle.std.specs.Prelude.{◌&&◌, Bool, nat_lt, IsTrue, unsigned_abs}
+use Rattle.wsm_record.specs.Schema.{Declared}
 use Rattle.wsm_record.specs.Event.{Event}
 use Rattle.wsm_program.specs.Program.{Program, is_program}
 use Rattle.wsm_machine.specs.Meaning.{query_of}
@@ -46,6 +48,23 @@ known_itself (Some n) = refl
 
 pub some_left : (left whole gone : ℕ) → left ≡ whole - gone → 0 < left → gone < whole
 some_left left whole gone is some = omega (arith, is, some)
+
+-- as many are left behind the events that stand for others as behind these
+pub left_alike : (records whole gone other : ℕ) → records + gone ≡ whole + other → records - other ≡ whole - gone
+left_alike records whole gone other same = omega (arith, same)
+
+-- ---- whether it can be said what lines come to
+
+pub said_each : (s : Source) (clocks : Option Clocks) (d : Declared) (before : List (List ℕ)) → length (said s clocks d before) ≡ length before
+said_each s clocks d [] = refl
+said_each s clocks d (line ∷ before) = ap suc (said_each s clocks d before)
+
+-- where there is a line, and some are left
+pub some_and_some : (lines came left some : ℕ) → came ≡ lines → left ≡ some → 0 < came → 0 < left → (nat_lt 0 lines && nat_lt 0 some) ≡ true
+some_and_some lines came left some is_came is_left one more =
+    let there : nat_lt 0 lines ≡ true = lt-ltb 0 lines (omega (arith, is_came, one)) in
+    let room : nat_lt 0 some ≡ true = lt-ltb 0 some (omega (arith, is_left, more)) in
+    ap (λ (b : Bool). b && nat_lt 0 some) there ∙ room
 
 -- ---- another that was told, which serves as well
 

@@ -1,6 +1,6 @@
 -- What an intake has come to, as a text. It says which events the engine needs and all else as it is; a run goes on from it as from the
 -- lines themselves.
-use Rattle.std.specs.Prelude.{◌≡◌, ◌<◌, ◌≤◌, ℕ, ℤ, List, length, reverse, Option, IsTrue, unsigned_abs}
+use Rattle.std.specs.Prelude.{◌≡◌, ◌<◌, ◌≤◌, ◌&&◌, ℕ, ℤ, nat_lt, Bool, List, length, reverse, Option, is_some, IsTrue, unsigned_abs}
 use Rattle.wsm_record.specs.Event.{Event}
 use Rattle.wsm_semantics.specs.Query.{Query}
 use Rattle.wsm_semantics.specs.Needed.{needed}
@@ -22,6 +22,7 @@ use Rattle.wsm_intake.specs.Turns.{setting_by}
 use Rattle.wsm_intake.specs.GoesOn.{kept_of}
 use Rattle.wsm_intake.specs.Resuming.{left_behind}
 use Rattle.wsm_intake.specs.Standing.{AreFacts, Facts, Says, facts_text}
+use Rattle.wsm_intake.specs.declared.intake.Intake.{Intake}
 use Rattle.wsm_intake.specs.declared.standing.Standing.{Standing}
 
 -- the events that a query needs of a history, the oldest first
@@ -66,3 +67,11 @@ pub record Saved (s : Source) (clocks : Option Clocks) (p : Program) (before : L
 pub record IsRead (s : Source) (clocks : Option Clocks) (p : Program) (before : List (List ℕ)) (text : List ℕ) (saved : Saved s clocks p before text) (t : Standing) (events : List Event) : Type 0 where
   pub says : Says clocks (count_in clocks (length p.header.schema.keys)) t (facts_of s clocks p before (query_of (program_with saved.records p)) saved.other saved.waiting saved.known)
   pub needs : events ≡ needed_in_order (query_of (program_with saved.records p)) saved.other.fed
+
+-- it can be said what lines come to: there is one, and RECORDS are left behind them
+abbrev pub can_say : Source → Option Clocks → Program → List (List ℕ) → Bool
+can_say s clocks p before = nat_lt 0 (length before) && nat_lt 0 (left_behind (query_of p) (kept_of s clocks p before).fed)
+
+-- the events that are needed are kept
+abbrev pub keeps_events : Intake → Bool
+keeps_events t = is_some t.told.staying

@@ -1,10 +1,13 @@
 //! What the lines of a log so far come to.
 
-ghost use Rattle.std.specs.Prelude.{◌≡◌, ◌<◌, ◌^◌, [], ℤ, Option, IfOk, IsTrue, OnOk, if◌then◌else◌, nat_eq, option_map};
+ghost use Rattle.std.specs.Prelude.{◌≡◌, ◌<◌, ◌^◌, [], ℤ, Option, IfOk, IsTrue, OnOk, if◌then◌else◌, length, nat_eq, option_map};
 ghost use Rattle.wsm_program.specs.Program.{Program, is_program};
 ghost use Rattle.wsm_turns.specs.declared.clocks.Clocks.{Clocks as AnyClocks};
+ghost use Rattle.wsm_turns.specs.Clocks.{AreClocks, count_in, named_in};
 ghost use Rattle.wsm_turns.specs.Known.{Passes, Remembers};
-ghost use Rattle.wsm_turns.specs.Turns.{Kept, watermark};
+ghost use Rattle.wsm_turns.specs.Named.{Knows};
+ghost use Rattle.wsm_turns.specs.Turns.{Kept, start_of, watermark};
+ghost use Rattle.wsm_turns.specs.Waits.{Hear};
 ghost use Rattle.wsm_intake.specs.Tells.{Serves};
 ghost use Rattle.wsm_intake.specs.Turns.{setting_by};
 
@@ -86,6 +89,7 @@ impl Intake {
     ghost use Rattle.wsm_intake.specs.Tells.{Serves};
     ghost use Rattle.wsm_intake.specs.Turns.{Ends, Fits, FitsBehind, Goes, Holds, Speaks, Turned, TurnedBehind, line_of, setting_by, spoken_read};
     ghost use Rattle.wsm_intake.specs.GoesOn.{GoesOn, GoneOn};
+    ghost use Rattle.wsm_intake.specs.Saved.{keeps_events};
 
     /// Before the first line, with these clocks, where there are any.
     pub fn open(
@@ -100,10 +104,7 @@ impl Intake {
     {
         let records = records_of(&verified);
         let identifiers = identifiers_of(alloc, &verified);
-        let told = Told::open(alloc, verified)?;
-        let count = count_in(clocks, told.schema().key_count());
-        let waiting = open_clocks(alloc, clocks, count)?;
-        let names = open_names(alloc, named_in(clocks))?;
+        let (told, waiting, names) = before_lines(alloc, verified, clocks)?;
         Ok(Intake {
             told,
             reader: LineReader::new(alloc, source),
@@ -127,7 +128,8 @@ impl Intake {
         clocks: Option<Clocks>,
     ) -> Result<Intake, AllocError>
         requires { AreClocks clocks }
-        ensures { IfOk result (λ intake. GoesOn source clocks verified intake []) }
+        ensures goes_on { IfOk result (λ intake. GoesOn source clocks verified intake []) }
+        ensures keeps { IfOk result (λ intake. keeps_events intake ≡ true) }
     {
         let mut intake = Intake::open(alloc, verified, source, clocks)?;
         intake.told.keep(alloc);
@@ -349,6 +351,24 @@ pub fn note_first(taken: u64, line: &[u8], first: &mut Vec<u8>) -> Result<(), Al
     } else {
         Ok(())
     }
+}
+
+// What is told, the clocks with what waits for them, and their names, before the first line.
+fn before_lines(
+    alloc: Global,
+    verified: Verified,
+    clocks: Option<Clocks>,
+) -> Result<(Told, Option<Waiting>, Option<ClockNames>), AllocError>
+    requires { AreClocks clocks }
+    ensures told { IfOk result (λ made. Serves verified made.0 []) }
+    ensures waiting { IfOk result (λ made. Hear clocks (count_in clocks (length verified.header.schema.keys)) made.1 [] (start_of clocks) []) }
+    ensures names { IfOk result (λ made. Knows (named_in clocks) made.2 []) }
+{
+    let told = Told::open(alloc, verified)?;
+    let names = open_names(alloc, named_in(clocks))?;
+    let count = count_in(clocks, told.schema().key_count());
+    let waiting = open_clocks(alloc, clocks, count)?;
+    Ok((told, waiting, names))
 }
 
 // The RECORDS of a program.

@@ -5,13 +5,12 @@ ghost use Rattle.wsm_record.specs.Event.{Event as AnyEvent, event_of};
 ghost use Rattle.wsm_engine.specs.Meaning.{Fits};
 ghost use Rattle.wsm_intake.specs.Resuming.{fed_all};
 
-use crate::told::Told;
+use crate::told::{Told, opened};
 use std::alloc::{AllocError, Global};
 use wsm_engine::Engine;
 use wsm_head::with_records;
 use wsm_program::Program;
 use wsm_record::Event;
-use wsm_rules::Verified;
 use wsm_turns::Taker;
 
 impl Told {
@@ -63,6 +62,7 @@ impl Told {
         let mut engine = opened(alloc, whole)?;
         feed_all(&mut engine, events);
         let Some(fewer) = fewer_records(left, engine.totals().admitted, records) else {
+            drop(engine);
             return Ok(None);
         };
         let Some(lesser) = with_records(alloc, engine.into_program(), fewer)? else {
@@ -82,17 +82,6 @@ impl Told {
             self.lines.clear();
         }
         Ok(())
-    }
-}
-
-// An engine of a program, before its first event.
-fn opened(alloc: Global, verified: Verified) -> Result<Engine, AllocError>
-    ensures program { IfOk result (λ engine. engine.program ≡ verified) }
-    ensures fits { IfOk result (λ engine. Fits engine []) }
-{
-    match Engine::open(alloc, verified) {
-        Ok(engine) => Ok(engine),
-        Err(_) => Err(AllocError),
     }
 }
 

@@ -49,8 +49,9 @@ pub fn run_log<R: Read + Drop, D: Device, L: Listener>(
     ensures flushed { OnOk result (D.is_flushed out.new ≡ true) }
     ensures write_failed { result ≡ Err LogEnd.WriteFailed → D.has_failed out.new ≡ true }
 {
-    let mut lines = Lines::new(alloc, reader, source.longest)?;
+    let longest = source.longest;
     let mut intake = Intake::open(alloc, verified, source, clocks)?;
+    let mut lines = Lines::new(alloc, reader, longest)?;
     take_log(&mut intake, &mut lines, out, listener)
 }
 

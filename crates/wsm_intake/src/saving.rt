@@ -1,6 +1,6 @@
 //! What an intake has come to as a text, and an intake that goes on from it.
 
-ghost use Rattle.std.specs.Prelude.{◌≡◌, ◌++◌, ◌∷◌, List, ℕ, ℤ, [], Option, IfOk, IfSome, OnOk, length, map, take, true};
+ghost use Rattle.std.specs.Prelude.{◌≡◌, ◌&&◌, ◌++◌, ◌∷◌, List, ℕ, ℤ, [], Option, IfOk, IfSome, OnOk, length, map, take, true};
 ghost use Rattle.wsm_record.specs.Event.{event_of};
 ghost use Rattle.wsm_program.specs.Program.{Program as AnyProgram};
 ghost use Rattle.wsm_lines.specs.declared.source.Source.{Source as AnySource};
@@ -11,7 +11,7 @@ ghost use Rattle.wsm_turns.specs.Clocks.{AreClocks};
 ghost use Rattle.wsm_turns.specs.Known.{Remembers};
 ghost use Rattle.wsm_intake.specs.Turns.{setting_by};
 ghost use Rattle.wsm_intake.specs.GoesOn.{GoesOn};
-ghost use Rattle.wsm_intake.specs.Saved.{IsRead, Saved};
+ghost use Rattle.wsm_intake.specs.Saved.{IsRead, Saved, can_say, keeps_events};
 
 use crate::intake::Intake;
 use crate::standing::Standing;
@@ -37,6 +37,8 @@ impl Intake {
             OnOk result (GoesOn s clocks p self.new before) }
         ensures saved { (s : AnySource) (clocks : Option AnyClocks) (p : AnyProgram) (before : List (List ℕ)) → GoesOn s clocks p self.old before →
             IfOk result (λ is_saved. is_saved ≡ true → (t : List ℕ) × (text.new.items ≡ text.old.items ++ t) × Saved s clocks p before t) }
+        ensures when { (s : AnySource) (clocks : Option AnyClocks) (p : AnyProgram) (before : List (List ℕ)) → GoesOn s clocks p self.old before →
+            IfOk result (λ is_saved. is_saved ≡ (can_say s clocks p before && keeps_events self.old)) }
         ensures grows { OnOk result (take (length text.old.items) text.new.items ≡ text.old.items) }
     {
         let left = self.told.records_left();

@@ -1,9 +1,10 @@
 //! An engine, and what it has told.
 
-ghost use Rattle.std.specs.Prelude.{◌≡◌, ◌++◌, Some, OnOk};
+ghost use Rattle.std.specs.Prelude.{◌≡◌, ◌++◌, [], Some, IfOk, OnOk};
 ghost use Rattle.wsm_record.specs.Schema.{Declared};
 ghost use Rattle.wsm_semantics.specs.Lines.{refusal_lines};
 ghost use Rattle.wsm_semantics.specs.Text.{lines_text};
+ghost use Rattle.wsm_engine.specs.Meaning.{Fits};
 ghost use Rattle.wsm_intake.specs.Intake.{fault_text};
 
 use crate::staying::Staying;
@@ -28,10 +29,12 @@ pub struct Told {
 impl Drop for Told {
     fn drop(self) {
         let Told {
-            engine: _,
+            engine,
             lines: _,
             staying: _,
         } = self;
+        // One call, where `_` lets each part of it go.
+        drop(engine);
     }
 }
 
@@ -51,11 +54,8 @@ impl Told {
     pub fn open(alloc: Global, verified: Verified) -> Result<Told, AllocError>
         ensures { IfOk result (λ told. Serves verified told []) }
     {
-        let Ok(engine) = Engine::open(alloc, verified) else {
-            return Err(AllocError);
-        };
         Ok(Told {
-            engine,
+            engine: opened(alloc, verified)?,
             lines: Vec::new(alloc),
             staying: None,
         })
@@ -172,6 +172,21 @@ impl Taker for Told {
         self.tell(number, reply.refusal)?;
         rows_text(self.engine.schema(), self.engine.rows(), &mut self.lines)?;
         Ok(())
+    }
+}
+
+/// An engine of a program, before its first event.
+///
+/// # Errors
+///
+/// Memory was refused.
+pub fn opened(alloc: Global, verified: Verified) -> Result<Engine, AllocError>
+    ensures program { IfOk result (λ engine. engine.program ≡ verified) }
+    ensures fits { IfOk result (λ engine. Fits engine []) }
+{
+    match Engine::open(alloc, verified) {
+        Ok(engine) => Ok(engine),
+        Err(_) => Err(AllocError),
     }
 }
 

@@ -113,7 +113,6 @@ impl NamedEvents {
 
     // Reads the event of a record whose key has no number so far.
     #[cold]
-    #[inline(never)]
     fn read_unknown(
         &mut self,
         schema: &Schema,
@@ -166,7 +165,6 @@ impl NamedEvents {
 }
 
 // The cell of a row that has the name of its key, where it may be a record.
-#[inline(always)]
 fn key_of(row: &ByteRecord) -> Option<&[u8]>
     ensures { option_map (λ s. s.now) result ≡ key_cell (fields_of row.now) }
 {
@@ -177,14 +175,12 @@ fn key_of(row: &ByteRecord) -> Option<&[u8]>
 }
 
 // The same by its tag.
-#[inline(always)]
 fn key_behind<'a>(tag: &[u8], row: &'a ByteRecord) -> Option<&'a [u8]>
     ensures { (cells : List (List ℕ)) → fields_of row.now ≡ tag.now ∷ cells → option_map (λ s. s.now) result ≡ key_cell (tag.now ∷ cells) }
 {
     if is_record_tag(tag) { row.get(1) } else { None }
 }
 
-#[inline(always)]
 fn is_record_tag(tag: &[u8]) -> bool
     ensures { result ≡ bytes_eq tag.now record_tag }
 {

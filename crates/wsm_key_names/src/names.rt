@@ -168,7 +168,6 @@ impl KeyNames {
     }
 
     /// The cell of the name of a number, in rows that are written; that of a number which no name has is empty.
-    #[inline(always)]
     pub fn cell(&self, number: usize) -> &[u8]
         ensures { result.now ≡ name_at (cells_of self.now) number }
     {
@@ -183,7 +182,6 @@ impl KeyNames {
     }
 
     /// The bytes of the name of a number; of a number that no name has, none.
-    #[inline(always)]
     pub fn text_of(&self, number: usize) -> &[u8]
         ensures { result.now ≡ name_at self.now number }
     {
@@ -236,7 +234,6 @@ impl KeyNames {
     }
 
     // The number of the name with these bytes, where a guess has it.
-    #[inline(always)]
     fn guess(&self, name: &[u8]) -> Option<u32>
         ensures { IfSome result (λ number. position (bytes_eq name.now) self.now ≡ Some number) }
     {
@@ -247,7 +244,6 @@ impl KeyNames {
     }
 
     // The same of a text with this word.
-    #[inline(always)]
     fn guess_word(&self, word: u64) -> Option<u32>
         ensures { (text : List ℕ) → AreBytes text → spelled text ≡ word → IfSome result (λ number. position (bytes_eq text) self.now ≡ Some number) }
     {
@@ -271,7 +267,6 @@ impl KeyNames {
     }
 
     // The number of the name with this word, where what is tried at this step has it.
-    #[inline(always)]
     fn guess_word_at(&self, word: u64, step: usize) -> Option<u32>
         ensures { (text : List ℕ) → AreBytes text → spelled text ≡ word → IfSome result (λ number. position (bytes_eq text) self.now ≡ Some number) }
     {
@@ -298,7 +293,6 @@ impl KeyNames {
     }
 
     // The same, where what is tried at this step has it.
-    #[inline(always)]
     fn guess_long_at(&self, name: &[u8], sum: u64, step: usize) -> Option<u32>
         ensures { IfSome result (λ number. position (bytes_eq name.now) self.now ≡ Some number) }
     {
@@ -311,7 +305,6 @@ impl KeyNames {
     }
 
     // Whether a name has this number and these bytes.
-    #[inline(always)]
     fn has(&self, number: u32, name: &[u8]) -> bool
         ensures { result ≡ true → position (bytes_eq name.now) self.now ≡ Some number }
     {
@@ -323,7 +316,6 @@ impl KeyNames {
 
     // The number of the name with these bytes, without a guess.
     #[cold]
-    #[inline(never)]
     fn search(&self, name: &[u8]) -> Option<u32>
         ensures { result ≡ position (bytes_eq name.now) self.now }
     {

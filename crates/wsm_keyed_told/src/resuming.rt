@@ -7,6 +7,7 @@ ghost use Rattle.wsm_program.specs.Program.{Program as AnyProgram, is_program};
 ghost use Rattle.wsm_head.specs.StandsFor.{program_with};
 ghost use Rattle.wsm_part_engines.specs.Fits.{Fits};
 ghost use Rattle.wsm_intake.specs.Resuming.{fed_all};
+ghost use Rattle.wsm_keyed_told.specs.Resuming.{IsLeft};
 
 use crate::told::{KeyedTold, is_named};
 use std::alloc::{AllocError, Global};
@@ -59,19 +60,11 @@ impl KeyedTold {
     ) -> Result<Option<KeyedTold>, AllocError>
         ensures { IfOk result (λ o. IfSome o (λ told. GoesOnFrom (program_with records self.parts.program) left names (map event_of events.now) told)) }
     {
-        let Some(fresh) = opened_with(alloc, self.into_program(), records)? else {
+        let Some(parts) = opened_behind(alloc, self.into_program(), &names, records, left, events)?
+        else {
             return Ok(None);
         };
-        let Some(parts) = fed(fresh, events, names.len())? else {
-            return Ok(None);
-        };
-        let Some(fewer) = fewer_records(left, parts.totals().admitted, records) else {
-            return Ok(None);
-        };
-        let Some(lesser) = opened_with(alloc, parts.into_program(), fewer)? else {
-            return Ok(None);
-        };
-        let mut told = KeyedTold::of(alloc, lesser, names);
+        let mut told = KeyedTold::of(alloc, parts, names);
         told.keep(alloc);
         told.take_all(events)?;
         Ok(Some(told))
@@ -101,6 +94,33 @@ impl KeyedTold {
         }
         Ok(())
     }
+}
+
+// Parts of a program that was verified before, before their first event, with so many RECORDS that as many are left behind events, the
+// oldest first, by these names. None as `resume` says.
+fn opened_behind(
+    alloc: Global,
+    program: Program,
+    names: &KeyNames,
+    records: i64,
+    left: u64,
+    events: &[Event],
+) -> Result<Option<Parts>, AllocError>
+    ensures { IfOk result (λ o. IfSome o (λ parts. IsLeft (program_with records program) left (map event_of events.now) parts)) }
+{
+    let Some(fresh) = opened_with(alloc, program, records)? else {
+        return Ok(None);
+    };
+    let Some(parts) = fed(fresh, events, names.len())? else {
+        return Ok(None);
+    };
+    let Some(fewer) = fewer_records(left, parts.totals().admitted, records) else {
+        return Ok(None);
+    };
+    let Some(lesser) = opened_with(alloc, parts.into_program(), fewer)? else {
+        return Ok(None);
+    };
+    Ok(Some(lesser))
 }
 
 // Parts of a program that was verified before, with so many RECORDS, before their first event. None where it isn't accepted with these.

@@ -10,7 +10,7 @@ ghost use Rattle.wsm_key_parts.specs.OpenedLate.{openers};
 ghost use Rattle.wsm_part_engines.specs.Fits.{engine_at};
 ghost use Rattle.wsm_part_engines.specs.Slots.{IsAt, Opens};
 
-use crate::slots::{is_open, put};
+use crate::slots::{is_open, make_room, put};
 use std::alloc::{AllocError, Global};
 use wsm_bytecode::decode;
 use wsm_engine::Engine;
@@ -48,7 +48,6 @@ pub fn open_part(
 // Opens the engine of a part that has none. It stands apart, since the places of two engines are cleared where it begins, which each
 // record paid for in 153 instructions.
 #[cold]
-#[inline(never)]
 fn open_closed(
     alloc: Global,
     bytes: &[u8],
@@ -65,8 +64,10 @@ fn open_closed(
     ensures opens { OnOk result (Opens bytes.now marks.now part slots.old.items slots.new.items) }
     ensures same { OnErr result ((other : ℕ) → engine_at slots.new.items other ≡ engine_at slots.old.items other) }
 {
+    make_room(slots, part)?;
     let engine = open_at(alloc, bytes, marks)?;
-    put(slots, part, engine)
+    put(slots, part, engine);
+    Ok(())
 }
 
 // An engine of the program of these bytes behind watermarks that bring its sources to their marks, in event time.

@@ -33,7 +33,6 @@ use wsm_rules::Verified;
 
 /// A front and the engines of all parts, which together answer what the query of a program answers over any number of names. A part has
 /// as many keys as the program declares: their places in it. The number of a name is that of its part times so many and its place.
-#[derive(Drop)]
 pub struct Parts {
     program: Program,
     front: Admission,
@@ -44,6 +43,20 @@ pub struct Parts {
     fired: u64,
     // Of the last record whose key came by its number, for the next.
     values: Vec<Value>,
+}
+
+impl Drop for Parts {
+    fn drop(self) {
+        let Parts {
+            program: _,
+            front: _,
+            marks: _,
+            engines: _,
+            fed: _,
+            fired: _,
+            values: _,
+        } = self;
+    }
 }
 
 impl Model for Parts {

@@ -50,21 +50,18 @@ fn one_if_open(slot: &Option<Engine>) -> usize
     }
 }
 
-/// Puts an engine there for a part that has none.
-pub fn put(slots: &mut Vec<Option<Engine>>, part: usize, engine: Engine) -> Result<(), AllocError>
-    requires part { part < 2 ^ 32 }
-    requires few { length slots.old.items ≤ 2 ^ 32 }
-    ensures few { length slots.new.items ≤ 2 ^ 32 }
-    ensures put { OnOk result (Puts part engine slots.old.items slots.new.items) }
-    ensures same { OnErr result ((other : ℕ) → engine_at slots.new.items other ≡ engine_at slots.old.items other) }
+/// Puts an engine there for a part that has room and no engine.
+pub fn put(slots: &mut Vec<Option<Engine>>, part: usize, engine: Engine)
+    requires { part < length slots.old.items }
+    ensures many { length slots.new.items ≡ length slots.old.items }
+    ensures put { Puts part engine slots.old.items slots.new.items }
 {
-    make_room(slots, part)?;
-    slots[part] = Some(engine);
-    Ok(())
+    // One call, where an assignment lets each part of what was there go.
+    drop(slots[part].replace(engine));
 }
 
-// Makes room for the engine of a part, and of all before it.
-fn make_room(slots: &mut Vec<Option<Engine>>, part: usize) -> Result<(), AllocError>
+/// Makes room for the engine of a part, and of all before it.
+pub fn make_room(slots: &mut Vec<Option<Engine>>, part: usize) -> Result<(), AllocError>
     requires part { part < 2 ^ 32 }
     requires few { length slots.old.items ≤ 2 ^ 32 }
     ensures few { length slots.new.items ≤ 2 ^ 32 }

@@ -1,5 +1,5 @@
 -- What was read is what was written.
-use Rattle.std.proofs.Common.{◌≡◌, ◌∙◌, ℕ, ◌-◌, ◌<◌, List, [], ◌∷◌, ◌++◌, Option, Some, None, Result, Ok, Err, IfOk, IfSome, ap, sym}
+use Rattle.std.proofs.Common.{◌≡◌, ◌∙◌, ℕ, ◌-◌, ◌<◌, List, [], ◌∷◌, ◌++◌, Option, Some, None, Result, Ok, Err, IfOk, IfSome, ap, subst, sym}
 use Rattle.std.specs.Prelude.{unwrap_or}
 use Rattle.wsm_saved.specs.Lists.{read_some}
 use Rattle.wsm_saved.proofs.Listing.{behind, read_more}
@@ -7,6 +7,14 @@ use Rattle.wsm_saved.proofs.Listing.{behind, read_more}
 pub both : {A : Type 0} (x y : A) (left rest : List ℕ) → ◌≡◌ {A = Option (A × List ℕ)} (Some (x, left)) (Some (y, rest)) → (x ≡ y) × (left ≡ rest)
 both {A} x y left rest is =
     let p : ◌≡◌ {A = A × List ℕ} (x, left) (y, rest) = ap (λ (o : Option (A × List ℕ)). unwrap_or o (x, left)) is in (ap (λ (q : A × List ℕ). q.0) p, ap (λ (q : A × List ℕ). q.1) p)
+
+-- something is read where something was written
+abbrev IsNone : {A : Type 0} → Option A → Type 0
+IsNone None = Unit {0}
+IsNone (Some x) = ⊥
+
+pub none_some : {A : Type 0} (x : A) → None ≡ Some x → ⊥
+none_some x is = subst IsNone is tt
 
 -- what holds of a value that is answered follows from what else does
 pub and_so : {X E : Type 0} (P Q : X → Type 0) → ((x : X) → P x → Q x) → (r : Result (Option X) E) → IfOk r (λ (o : Option X). IfSome o P) → IfOk r (λ (o : Option X). IfSome o Q)

@@ -35,9 +35,9 @@ hears_so c count w stamps told is_told waits rows same_told same_rows hears = re
   rows = hears.rows ∙ same_rows;
 }
 
--- a log with clocks
-pub with_clocks : (c : Clocks) (count : ℕ) (was : Option Waiting) (stamps : List Stamp) (told : ℕ) (waits : List (Timed Numbered)) (rest old left : List ℕ) (o : Option Waiting)
-    → ((w : Waiting) → Hears c count w stamps told waits → WaitingFits w → old ≡ stand_text (stand_of w) ++ rest → IfSome o (λ new. Hears c count new stamps told waits × (left ≡ rest)))
-    → Hear (Some c) count was stamps told waits → ClocksFit was → old ≡ clocks_text was ++ rest → IfSome o (λ new. Hears c count new stamps told waits × (left ≡ rest))
-with_clocks c count None stamps told waits rest old left o back hear fits is = absurd hear
-with_clocks c count (Some w) stamps told waits rest old left o back hear fits is = back w hear fits is
+-- what follows of where the clocks of a log stand, in front of a text, where it has any
+pub with_clocks : {P : Type 0} (c : Clocks) (count : ℕ) (was : Option Waiting) (stamps : List Stamp) (told : ℕ) (waits : List (Timed Numbered)) (rest old : List ℕ)
+    → ((w : Waiting) → Hears c count w stamps told waits → WaitingFits w → old ≡ stand_text (stand_of w) ++ rest → P)
+    → Hear (Some c) count was stamps told waits → ClocksFit was → old ≡ clocks_text was ++ rest → P
+with_clocks c count None stamps told waits rest old so hear fits is = absurd hear
+with_clocks c count (Some w) stamps told waits rest old so hear fits is = so w hear fits is

@@ -1,6 +1,6 @@
 //! The clocks of a log, and the records that wait for them.
 
-ghost use Rattle.std.specs.Prelude.{◌≡◌, ◌++◌, ◌≤◌, [], List, ℕ, Option, IfOk, IfSome, OnOk, length, map, option_map};
+ghost use Rattle.std.specs.Prelude.{◌≡◌, ◌++◌, ◌≤◌, [], List, ℕ, Option, IfOk, IfSome, OnOk, is_some, length, map, option_map, true};
 ghost use Rattle.wsm_saved.specs.Lists.{ListFits, list_text, read_list, read_some};
 ghost use Rattle.wsm_watermarks.specs.declared.held.Timed.{Timed as AnyTimed};
 ghost use Rattle.wsm_watermarks.specs.declared.stamp.Stamp.{Stamp as AnyStamp};
@@ -269,9 +269,11 @@ fn resume_waiting(
 ) -> Result<Option<Waiting>, AllocError>
     requires clocks { IsClocks clocks }
     requires count { count ≤ MOST_CLOCKS }
-    ensures { (was : AnyWaiting) (stamps : List AnyStamp) (told : ℕ) (waits : List (AnyTimed Numbered)) → Hears clocks count was stamps told waits →
+    ensures restored { (was : AnyWaiting) (stamps : List AnyStamp) (told : ℕ) (waits : List (AnyTimed Numbered)) → Hears clocks count was stamps told waits →
         WaitingFits was → standing_of standing ≡ stand_of was →
         IfOk result (λ o. IfSome o (λ new. Hears clocks count new stamps told waits)) }
+    ensures from_saved { (was : AnyWaiting) (stamps : List AnyStamp) (told : ℕ) (waits : List (AnyTimed Numbered)) → Hears clocks count was stamps told waits →
+        standing_of standing ≡ stand_of was → IfOk result (λ o. is_some o ≡ true) }
 {
     if standing.said.len() != count {
         return Ok(None);
@@ -297,9 +299,12 @@ fn restore_waiting(
 ) -> Result<Option<Waiting>, AllocError>
     requires clocks { IsClocks clocks }
     requires count { count ≤ MOST_CLOCKS }
-    ensures { (was : AnyWaiting) (stamps : List AnyStamp) (told : ℕ) (waits : List (AnyTimed Numbered)) (rest : List ℕ) →
+    ensures restored { (was : AnyWaiting) (stamps : List AnyStamp) (told : ℕ) (waits : List (AnyTimed Numbered)) (rest : List ℕ) →
         Hears clocks count was stamps told waits → WaitingFits was → from.old ≡ stand_text (stand_of was) ++ rest →
         IfOk result (λ o. IfSome o (λ new. Hears clocks count new stamps told waits × (from.new ≡ rest))) }
+    ensures from_saved { (was : AnyWaiting) (stamps : List AnyStamp) (told : ℕ) (waits : List (AnyTimed Numbered)) (rest : List ℕ) →
+        Hears clocks count was stamps told waits → WaitingFits was → from.old ≡ stand_text (stand_of was) ++ rest →
+        IfOk result (λ o. is_some o ≡ true) }
 {
     match restore_standing(alloc, from)? {
         Some(standing) => resume_waiting(alloc, clocks, count, standing),
@@ -320,9 +325,12 @@ pub fn restore_clocks(
 ) -> Result<Option<Option<Waiting>>, AllocError>
     requires clocks { AreClocks clocks }
     requires count { count ≤ MOST_CLOCKS }
-    ensures { (was : Option AnyWaiting) (stamps : List AnyStamp) (told : ℕ) (waits : List (AnyTimed Numbered)) (rest : List ℕ) →
+    ensures restored { (was : Option AnyWaiting) (stamps : List AnyStamp) (told : ℕ) (waits : List (AnyTimed Numbered)) (rest : List ℕ) →
         Hear clocks count was stamps told waits → ClocksFit was → from.old ≡ clocks_text was ++ rest →
         IfOk result (λ o. IfSome o (λ new. Hear clocks count new stamps told waits × (from.new ≡ rest))) }
+    ensures from_saved { (was : Option AnyWaiting) (stamps : List AnyStamp) (told : ℕ) (waits : List (AnyTimed Numbered)) (rest : List ℕ) →
+        Hear clocks count was stamps told waits → ClocksFit was → from.old ≡ clocks_text was ++ rest →
+        IfOk result (λ o. is_some o ≡ true) }
 {
     let Some(clocks) = clocks else {
         return Ok(Some(None));

@@ -1,6 +1,6 @@
 //! Identifiers with the times of their records.
 
-ghost use Rattle.std.specs.Prelude.{◌≡◌, ◌++◌, List, ℕ, IfOk, IfSome, OnOk, map, option_map};
+ghost use Rattle.std.specs.Prelude.{◌≡◌, ◌++◌, List, ℕ, IfOk, IfSome, OnOk, is_some, map, option_map, true};
 ghost use Rattle.wsm_doubles.specs.Entries.{entry_of};
 ghost use Rattle.wsm_doubles.specs.Memory.{Memory};
 ghost use Rattle.wsm_saved.specs.Lists.{read_list, read_some};
@@ -92,8 +92,9 @@ pub fn restore_doubles(
     alloc: Global,
     from: &mut Restoring<'_>,
 ) -> Result<Option<Doubles>, AllocError>
-    ensures { (known : Memory) (rest : List ℕ) → DoublesFit known → from.old ≡ doubles_text known ++ rest →
+    ensures restored { (known : Memory) (rest : List ℕ) → DoublesFit known → from.old ≡ doubles_text known ++ rest →
         IfOk result (λ o. IfSome o (λ d. (d.entries ≡ known) × (from.new ≡ rest))) }
+    ensures from_saved { (known : Memory) (rest : List ℕ) → DoublesFit known → from.old ≡ doubles_text known ++ rest → IfOk result (λ o. is_some o ≡ true) }
 {
     let Some(entries) = restore_entries(alloc, from)? else {
         return Ok(None);

@@ -14,14 +14,14 @@ use Rattle.wsm_intake.proofs.run.run_log.Goals as goal
 nothing : (known : Option (List ℕ)) (s : Source) (clocks : Option Clocks) (old : Option (List ℕ)) (q : Query) → LogBroken known s clocks old old q Memory
 nothing known s clocks old q = ([], record { first = AreFirst-none s.longest known; text = Appends-start old })
 
-pub returns-in_err-lines-clause-ends_early : goal.returns-in_err-lines-clause-ends_early
-returns-in_err-lines-clause-ends_early g c =
+pub returns-in_err-intake-clause-ends_early : goal.returns-in_err-intake-clause-ends_early
+returns-in_err-intake-clause-ends_early g c =
     let e = err_from_is_err_and c.from_residual.result c.from_residual.ensures.1 in
     rw (e.1, e.2) (nothing (g.R.Read.remaining c.args.reader) c.args.source c.args.clocks (g.D.Device.taken c.args.out.now) (query_of c.args.verified))
 
-pub returns-in_err-intake-clause-ends_early : goal.returns-in_err-intake-clause-ends_early
-returns-in_err-intake-clause-ends_early g c =
-    let e = err_from_is_err_and c.from_residual-in_err-intake.result c.from_residual-in_err-intake.ensures.1 in
+pub returns-in_err-lines-clause-ends_early : goal.returns-in_err-lines-clause-ends_early
+returns-in_err-lines-clause-ends_early g c =
+    let e = err_from_is_err_and c.from_residual-in_err-lines.result c.from_residual-in_err-lines.ensures.1 in
     rw (e.1, e.2) (nothing (g.R.Read.remaining c.args.reader) c.args.source c.args.clocks (g.D.Device.taken c.args.out.now) (query_of c.args.verified))
 
 pub returns-clause-completes : goal.returns-clause-completes

@@ -7,8 +7,8 @@ use Rattle.wsm_saved_turns.specs.Turns.{Stand, row_of}
 use Rattle.wsm_saved_turns.proofs.Resuming.{hears_so, marks_fit}
 use Rattle.wsm_saved_turns.proofs.clocks.resume_waiting.Goals as goal
 
-pub returns : goal.returns
-returns c = λ was stamps told waits hears fits is.
+pub returns-clause-restored : goal.returns-clause-restored
+returns-clause-restored c = λ was stamps told waits hears fits is.
     let s = c.args.standing in
     let clocks = c.args.clocks in
     let rows : List (Timed Numbered) = map row_of c.deref.result.now in

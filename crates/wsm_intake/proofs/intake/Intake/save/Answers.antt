@@ -1,16 +1,19 @@
-use Rattle.std.proofs.Common.{rules, ◌≡◌, ◌∙◌, ◌++◌, ℕ, List, length, take, refl, ap, subst, arith}
+use Rattle.std.proofs.Common.{rules, ◌≡◌, ◌∙◌, ◌++◌, ℕ, Bool, List, length, take, refl, sym, ap, subst, arith}
+use Rattle.std.specs.Prelude.{◌&&◌, unsigned_abs}
 use Rattle.std.proofs.lemmas.Result.{IfOk-weaker, on_ok_weaker}
 use Rattle.wsm_machine.specs.Meaning.{query_of}
 use Rattle.wsm_turns.specs.Clocks.{named_in}
-use Rattle.wsm_head.specs.StandsFor.{program_with}
+use Rattle.wsm_head.specs.StandsFor.{program_with, taken}
 use Rattle.wsm_saved.specs.Events.{event_text}
 use Rattle.wsm_saved.specs.Lists.{BytesFit, bytes_text, list_text}
 use Rattle.wsm_saved.specs.Numbers.{number_text}
 use Rattle.wsm_saved_turns.specs.Turns.{DoublesFit, clocks_text, doubles_text, names_text}
 use Rattle.wsm_intake.specs.Intake.{names_of}
-use Rattle.wsm_intake.specs.Saved.{needed_in_order}
+use Rattle.wsm_intake.specs.GoesOn.{kept_of}
+use Rattle.wsm_intake.specs.Resuming.{left_behind}
+use Rattle.wsm_intake.specs.Saved.{keeps_events, needed_in_order}
 use Rattle.wsm_intake.proofs.Behind.{behind, grown_through}
-use Rattle.wsm_intake.proofs.SavedFacts.{is_saved, known_itself, named_of, names_in, served_on}
+use Rattle.wsm_intake.proofs.SavedFacts.{is_saved, known_itself, left_alike, named_of, names_in, said_each, served_on, some_and_some}
 use Rattle.wsm_intake.proofs.intake.Intake.save.Goals as goal
 
 pub returns-clause-goes_on : goal.returns-clause-goes_on
@@ -61,6 +64,17 @@ returns-clause-saved c = λ s clocks p before on.
           (c.in_ok-save_names.ensures.fits (named_in clocks) names knows)
           (subst (λ k. DoublesFit k.entries) c.doubles.ensures c.in_ok-save_doubles.ensures.fits) now.fits refl,
     )) (c.save_needed.ensures.saved mid fed on.fits.holds.told)
+
+pub returns-clause-when : goal.returns-clause-when
+returns-clause-when c = λ s clocks p before on.
+    let old = c.args.self.now in
+    let mid = program_with on.records p in
+    let past = (kept_of s clocks p before).fed in
+    let lines = on.fits.taken ∙ said_each s clocks p.header.schema before in
+    let left = c.records_left-left.ensures.left mid on.other.fed on.fits.holds.told
+    ∙ left_alike (unsigned_abs on.records) (unsigned_abs p.header.clock.records) (taken (query_of p) past) (taken (query_of mid) on.other.fed) on.stands.stands.left in
+    let can = some_and_some (length before) old.taken c.records_left-left.result (left_behind (query_of p) past) lines left (omega arith) (omega arith) in
+    IfOk-weaker c.save_needed.result _ _ (λ is_saved kept. kept ∙ sym (ap (λ (b : Bool). b && keeps_events old) can)) c.save_needed.ensures.is_saved
 
 pub returns-clause-grows : goal.returns-clause-grows
 returns-clause-grows c =
