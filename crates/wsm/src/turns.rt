@@ -129,6 +129,10 @@ impl Turns {
         ensures part { OnErr result (TakesPart (D.taken out.old) (D.taken out.new) self.now.lines.items) }
         ensures fails { OnErr result (D.has_failed out.new ≡ true) }
     {
+        // Most turns have no lines.
+        if self.lines.is_empty() {
+            return Ok(());
+        }
         write_out(out, &self.lines)
     }
 

@@ -121,6 +121,7 @@ impl Admission {
 
     /// Decides on the next event, as [`decide`](Admission::decide) does, where whoever has read it
     /// knows whether its values fit the schema: then no value is looked at.
+    #[inline(always)]
     pub fn decide_judged(
         &mut self,
         schema: &Schema,
@@ -188,6 +189,7 @@ impl Admission {
     }
 
     // The first rule that refuses the event, or none.
+    #[inline(always)]
     fn refusal(
         &self,
         schema: &Schema,
@@ -207,6 +209,7 @@ impl Admission {
         }
     }
 
+    #[inline(always)]
     fn try_record(
         &self,
         schema: &Schema,

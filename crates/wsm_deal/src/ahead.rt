@@ -44,7 +44,6 @@ impl<R: Read + Drop> Ahead<R> {
 
 impl<R: Read> Ahead<R> {
     /// Whether a row that begins at a place may end in bytes that the input didn't give yet.
-    #[inline(always)]
     pub fn may_wait(&self, place: u64) -> bool {
         self.whole <= place
     }

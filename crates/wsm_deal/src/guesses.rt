@@ -64,7 +64,6 @@ impl Guesses {
     }
 
     /// What is tried for a text of this mark, first at its place, and then at the next ones of those near it.
-    #[inline(always)]
     pub(crate) fn at(&self, mark: u64, step: usize) -> Option<&Guess>
         ensures { (names : List (List ℕ)) (block : ℕ) → AreGuesses names block self.now.guesses.items → IfSome result (λ guess. IsGuess names block guess.now) }
     {

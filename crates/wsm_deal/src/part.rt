@@ -118,7 +118,6 @@ impl<D: Device> Part<D> {
     }
 
     // Begins the text where the row is the first.
-    #[inline(always)]
     fn open(&mut self, row: &ByteRecord) -> Result<(), AllocError>
         ensures text { OnOk result (self.new.text.items ≡ self.old.text.items ++ (if self.old.begun then [] else mark_before (fields_of row.now))) }
         ensures begun { OnOk result (self.new.begun ≡ true) }
@@ -167,7 +166,6 @@ impl<D: Device> Part<D> {
 }
 
 // Begins the text of a part, in front of its first row.
-#[inline(never)]
 fn begin(row: &ByteRecord, text: &mut Vec<u8>) -> Result<(), AllocError>
     ensures { OnOk result (text.new.items ≡ text.old.items ++ mark_before (fields_of row.now)) }
 {

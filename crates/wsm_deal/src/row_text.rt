@@ -32,7 +32,6 @@ pub fn add_row(row: &ByteRecord, out: &mut Vec<u8>) -> Result<(), AllocError>
 
 // The first cell of a row of three to eight cells, where it is one byte that needs no quotes, as the tag of most
 // records is.
-#[inline(always)]
 fn short_tag(row: &ByteRecord) -> Option<u8>
     ensures cells { IfSome result (λ _. (3 ≤ length (fields_of row.now)) × (length (fields_of row.now) ≤ FEW)) }
     ensures tag { IfSome result (λ tag. csv.field_text csv.default_writer (get_or (fields_of row.now) 0 []) ≡ tag ∷ []) }
@@ -63,7 +62,6 @@ fn add_tagged_row(tag: u8, row: &ByteRecord, out: &mut Vec<u8>) -> Result<(), Al
 }
 
 // Has room for the text of a row of short cells.
-#[inline(always)]
 fn make_short_room(out: &mut Vec<u8>) -> Result<(), AllocError>
     ensures same { out.new.items ≡ out.old.items }
     ensures room { OnOk result (vec_len out.new + SHORT_ROOM ≤ vec_capacity out.new) }
@@ -136,7 +134,6 @@ fn add_three(tag: u8, row: &ByteRecord, out: &mut Vec<u8>) -> bool
 }
 
 // Ends a row in the place of the comma behind its last cell.
-#[inline(always)]
 fn end_line(out: &mut Vec<u8>)
     requires { vec_len out.old < vec_capacity out.old }
     ensures { (line : List ℕ) → out.old.items ≡ line ++ 44 ∷ [] → out.new.items ≡ line ++ 10 ∷ [] }
@@ -208,7 +205,6 @@ fn add_few(cell: &[u8], end: u8, out: &mut Vec<u8>) -> bool
 }
 
 // Whether no byte of four needs quotes, where it is told at once.
-#[inline(always)]
 fn are_bare(a: u8, b: u8, c: u8, d: u8) -> bool
     ensures { result ≡ true → (rest : List ℕ) → csv.needs_quotes csv.default_writer (a ∷ b ∷ c ∷ d ∷ rest) ≡ csv.needs_quotes csv.default_writer rest }
 {
@@ -216,7 +212,6 @@ fn are_bare(a: u8, b: u8, c: u8, d: u8) -> bool
 }
 
 // Whether a byte is past all that need quotes.
-#[inline(always)]
 fn is_bare(byte: u8) -> bool
     ensures { result ≡ true → csv.needs_byte csv.default_writer byte ≡ false }
 {
@@ -224,7 +219,6 @@ fn is_bare(byte: u8) -> bool
 }
 
 // Adds two bytes, where there is room for them.
-#[inline(always)]
 fn push_two(a: u8, b: u8, out: &mut Vec<u8>)
     requires { vec_len out.old + 2 ≤ vec_capacity out.old }
     ensures room { (vec_len out.new ≡ vec_len out.old + 2) × (vec_capacity out.new ≡ vec_capacity out.old) }
@@ -235,7 +229,6 @@ fn push_two(a: u8, b: u8, out: &mut Vec<u8>)
 }
 
 // Adds three.
-#[inline(always)]
 fn push_three(a: u8, b: u8, c: u8, out: &mut Vec<u8>)
     requires { vec_len out.old + 3 ≤ vec_capacity out.old }
     ensures room { (vec_len out.new ≡ vec_len out.old + 3) × (vec_capacity out.new ≡ vec_capacity out.old) }
@@ -246,7 +239,6 @@ fn push_three(a: u8, b: u8, c: u8, out: &mut Vec<u8>)
 }
 
 // Adds four.
-#[inline(always)]
 fn push_four(a: u8, b: u8, c: u8, d: u8, out: &mut Vec<u8>)
     requires { vec_len out.old + 4 ≤ vec_capacity out.old }
     ensures room { (vec_len out.new ≡ vec_len out.old + 4) × (vec_capacity out.new ≡ vec_capacity out.old) }
@@ -257,7 +249,6 @@ fn push_four(a: u8, b: u8, c: u8, d: u8, out: &mut Vec<u8>)
 }
 
 // Adds the text of a row that may have any number of cells, long ones too.
-#[inline(never)]
 fn add_long_row(row: &ByteRecord, out: &mut Vec<u8>) -> Result<(), AllocError>
     ensures { OnOk result (out.new.items ≡ out.old.items ++ csv.row_text csv.default_writer (fields_of row.now)) }
 {
@@ -271,7 +262,6 @@ fn add_long_row(row: &ByteRecord, out: &mut Vec<u8>) -> Result<(), AllocError>
 }
 
 // Has room for the text of a row without quotes.
-#[inline(always)]
 fn make_room(row: &ByteRecord, out: &mut Vec<u8>) -> Result<(), AllocError>
     ensures { out.new.items ≡ out.old.items }
 {
@@ -284,7 +274,6 @@ fn make_room(row: &ByteRecord, out: &mut Vec<u8>) -> Result<(), AllocError>
 
 // Adds the text of a row of two cells or more that needs no quotes, where there is room for it, and answers
 // whether it did. Of another one a part may be added.
-#[inline(always)]
 fn add_plain_row(row: &ByteRecord, out: &mut Vec<u8>) -> bool
     ensures all { result ≡ true → out.new.items ≡ out.old.items ++ csv.row_text csv.default_writer (fields_of row.now) }
     ensures kept { take (length out.old.items) out.new.items ≡ out.old.items }
@@ -296,7 +285,6 @@ fn add_plain_row(row: &ByteRecord, out: &mut Vec<u8>) -> bool
 }
 
 // The same to a text by value, whose length can stay in a register.
-#[inline(always)]
 fn with_plain_row(row: &ByteRecord, mut text: Vec<u8>) -> (bool, Vec<u8>)
     ensures all { result.0 ≡ true → result.1.items ≡ text.items ++ csv.row_text csv.default_writer (fields_of row.now) }
     ensures kept { take (length text.items) result.1.items ≡ text.items }
@@ -314,7 +302,6 @@ fn with_plain_row(row: &ByteRecord, mut text: Vec<u8>) -> (bool, Vec<u8>)
 }
 
 // Adds a comma and a cell, as the next one does.
-#[inline(always)]
 fn add_next_cell(cell: &[u8], out: &mut Vec<u8>) -> bool
     requires { vec_len out.old < vec_capacity out.old }
     ensures all { result ≡ true → out.new.items ≡ out.old.items ++ (44 ∷ csv.field_text csv.default_writer cell.now) }
@@ -326,7 +313,6 @@ fn add_next_cell(cell: &[u8], out: &mut Vec<u8>) -> bool
 }
 
 // Adds a cell that needs no quotes, where it leaves room for a byte, and answers whether it did.
-#[inline(always)]
 fn add_plain_cell(cell: &[u8], out: &mut Vec<u8>) -> bool
     ensures all { result ≡ true → out.new.items ≡ out.old.items ++ csv.field_text csv.default_writer cell.now }
     ensures room { result ≡ true → vec_len out.new < vec_capacity out.new }
@@ -336,7 +322,6 @@ fn add_plain_cell(cell: &[u8], out: &mut Vec<u8>) -> bool
 }
 
 // Adds the bytes of a cell, up to the first that needs quotes, and answers whether there is none.
-#[inline(always)]
 fn add_plain(cell: &[u8], out: &mut Vec<u8>) -> bool
     requires { vec_len out.old + length cell.now ≤ vec_capacity out.old }
     ensures room { (vec_len out.new ≤ vec_len out.old + length cell.now) × (vec_capacity out.new ≡ vec_capacity out.old) }

@@ -20,7 +20,6 @@ pub(crate) fn block_of(text: &[u8]) -> [u8; BLOCK]
 }
 
 /// Adds a text. Where it is no longer than a block, the block begins with it, and is copied whole: no call is made.
-#[inline(always)]
 pub(crate) fn add_text(
     text: &[u8],
     block: &[u8; BLOCK],
@@ -37,7 +36,6 @@ pub(crate) fn add_text(
 }
 
 // Adds so many bytes of a block, where there is room for all.
-#[inline(always)]
 fn add_front(block: &[u8; BLOCK], count: usize, out: &mut Vec<u8>)
     requires { (count ≤ BLOCK) × (vec_len out.old + BLOCK ≤ vec_capacity out.old) }
     ensures { out.new.items ≡ out.old.items ++ take count block.now }
@@ -50,7 +48,6 @@ fn add_front(block: &[u8; BLOCK], count: usize, out: &mut Vec<u8>)
 
 // The same to a text by value, whose length can stay in a register. All bytes are added and the others cut off, since
 // a block is copied at once.
-#[inline(always)]
 fn with_front(block: &[u8; BLOCK], count: usize, mut text: Vec<u8>) -> Vec<u8>
     requires { (count ≤ BLOCK) × (vec_len text + BLOCK ≤ vec_capacity text) }
     ensures { result.items ≡ text.items ++ take count block.now }

@@ -236,7 +236,6 @@ impl Shares {
     }
 
     // The same of a key that has these words.
-    #[inline(always)]
     fn part_of_words(&self, key: &[u8], words: Words) -> usize
         requires { spelled key.now ≡ worth_of words }
         ensures { result ≡ part_of self.now key.now }
@@ -287,7 +286,6 @@ impl Shares {
     }
 
     // The part of a key with these words, where what is tried at this step has it.
-    #[inline(always)]
     fn guess_words(&self, words: Words, step: usize) -> Option<usize>
         ensures { (key : List ℕ) → AreBytes key → spelled key ≡ worth_of words → IfSome result (λ part. part ≡ part_of self.now key) }
     {
@@ -300,7 +298,6 @@ impl Shares {
     }
 
     // The same of a key that has no words, by its sum.
-    #[inline(always)]
     fn guess_name(&self, key: &[u8], sum: u64, step: usize) -> Option<usize>
         ensures { IfSome result (λ part. part ≡ part_of self.now key.now) }
     {
@@ -315,7 +312,6 @@ impl Shares {
 
     // The part of a key, without a guess.
     #[cold]
-    #[inline(never)]
     fn search(&self, key: &[u8]) -> usize
         ensures { result ≡ part_of self.now key.now }
     {

@@ -22,7 +22,6 @@ impl Words {
     ghost use Rattle.wsm_deal.specs.KeyGuesses.{worth_of};
 
     /// Those of a text that has one word.
-    #[inline(always)]
     pub(crate) fn of_word(word: u64) -> Words
         ensures { worth_of result ≡ word }
     {
@@ -33,7 +32,6 @@ impl Words {
     }
 
     /// Whether they are those of the same text.
-    #[inline(always)]
     pub(crate) fn are(&self, others: Words) -> bool
         ensures { result ≡ true → worth_of self.now ≡ worth_of others }
     {
@@ -41,7 +39,6 @@ impl Words {
     }
 
     /// A number made of both.
-    #[inline(always)]
     pub(crate) fn mark(&self) -> u64 {
         self.head ^ self.tail
     }

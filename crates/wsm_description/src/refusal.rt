@@ -6,7 +6,7 @@ ghost use Rattle.wsm_description.specs.Refusals.{dotted};
 use std::alloc::{AllocError, AllocFailed, Global};
 use wsm_values::Word;
 
-/// What is wrong with a source. The order is that in which faults are told.
+/// What is wrong with a source. The order is that of their numbers, from `L1` on.
 #[derive(Clone, Copy, Debug, PartialEq, Eq)]
 pub enum SourceFault {
     /// The text is no TOML.

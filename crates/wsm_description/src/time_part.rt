@@ -86,7 +86,7 @@ fn has_percent(text: &[u8]) -> bool
     false
 }
 
-// A form that needs no zone has none.
+// A form that needs no zone has neither a zone nor a fold.
 fn without_zone(
     alloc: Global,
     table: &Table,

@@ -33,7 +33,6 @@ impl Model for Chains {
 }
 
 // The bucket of a hash.
-#[inline(always)]
 fn bucket_of(hash: u32, buckets: usize) -> usize
     requires { 0 < buckets }
     ensures value { result ≡ bucket_of buckets hash }
@@ -90,7 +89,6 @@ impl Chains {
     }
 
     // The hash of a number.
-    #[inline(always)]
     pub(crate) fn hash(&self, number: usize) -> u32
         requires { number < length self.now.hashes }
         ensures { result ≡ slice_index self.now.hashes number }
@@ -99,7 +97,6 @@ impl Chains {
     }
 
     // One more than the number of the last hash in the bucket of a hash, 0 where there is none.
-    #[inline(always)]
     pub(crate) fn last(&self, hash: u32) -> usize
         requires { 0 < self.now.buckets }
         ensures { result ≡ last_in self.now (bucket_of self.now.buckets hash) (length self.now.hashes) }
@@ -108,7 +105,6 @@ impl Chains {
     }
 
     // One more than the number of the last hash before a number that is in its bucket, 0 where there is none.
-    #[inline(always)]
     pub(crate) fn before(&self, number: usize) -> usize
         requires { number < length self.now.hashes }
         ensures value { result ≡ last_in self.now (bucket_of self.now.buckets (slice_index self.now.hashes number)) number }
@@ -118,7 +114,6 @@ impl Chains {
     }
 
     // Adds a hash. Memory was refused, or no number is left.
-    #[inline(always)]
     pub(crate) fn push(&mut self, hash: u32) -> Result<(), AllocError>
         requires { 0 < self.old.buckets }
         ensures added { OnOk result (self.new ≡ record { hashes = self.old.hashes ++ hash ∷ []; buckets = self.old.buckets }) }

@@ -171,7 +171,6 @@ fn make_room(
 
 // Drops what can't count any more at a watermark, and has room for as many again as there were.
 #[cold]
-#[inline(never)]
 fn forget(
     alloc: Global,
     table: &mut Table,

@@ -55,7 +55,6 @@ impl Entries {
         })
     }
 
-    #[inline(always)]
     pub(crate) fn len(&self) -> usize
         ensures { result ≡ length self.now }
     {
@@ -63,7 +62,6 @@ impl Entries {
     }
 
     // The identifier of a number.
-    #[inline(always)]
     pub(crate) fn text(&self, number: usize) -> &[u8]
         requires { number < length self.now }
         ensures { result.now ≡ (slice_index_or self.now number no_entry).0 }
@@ -73,7 +71,6 @@ impl Entries {
     }
 
     // The time of a number.
-    #[inline(always)]
     pub(crate) fn time(&self, number: usize) -> i64
         requires { number < length self.now }
         ensures { result ≡ (slice_index_or self.now number no_entry).1 }
@@ -82,7 +79,6 @@ impl Entries {
     }
 
     // Adds an identifier with a time.
-    #[inline(always)]
     pub(crate) fn push(&mut self, text: &[u8], time: i64) -> Result<(), AllocError>
         ensures added { OnOk result (self.new ≡ self.old ++ (text.now, time) ∷ []) }
         ensures unchanged { OnErr result (self.new ≡ self.old) }

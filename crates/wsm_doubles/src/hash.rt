@@ -6,7 +6,6 @@ ghost use Rattle.wsm_doubles.specs.Entries.{hash_of};
 use std::hash::{FoldHasher, Hasher};
 
 // The hash of a text. It takes 16 bytes at a time.
-#[inline(always)]
 pub(crate) fn hash_of(text: &[u8]) -> u32
     ensures { result ≡ hash_of text.now }
 {

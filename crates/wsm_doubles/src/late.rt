@@ -19,7 +19,6 @@ pub(crate) struct Moment {
 
 impl Moment {
     // Whether a record of a time, in its range or not, would be late.
-    #[inline(always)]
     pub(crate) fn is_late(&self, time: i64) -> bool
         ensures { result ≡ is_late self.now.clock self.now.shape self.now.mark time }
     {
@@ -31,7 +30,6 @@ impl Moment {
     }
 
     // What is late has a time, or the end of its last window, that is no later.
-    #[inline(always)]
     fn bound(&self) -> i128
         ensures { result ≡ self.now.mark -ℤ self.now.clock.lateness }
     {

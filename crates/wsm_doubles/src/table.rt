@@ -52,14 +52,12 @@ impl Table {
         })
     }
 
-    #[inline(always)]
     pub(crate) fn len(&self) -> usize
         ensures { result ≡ length self.now.entries }
     {
         self.entries.len()
     }
 
-    #[inline(always)]
     pub(crate) fn buckets(&self) -> usize
         ensures { result ≡ self.now.buckets }
     {
@@ -87,7 +85,6 @@ impl Table {
     }
 
     // Whether the entry of a number has an identifier with its hash, and may count at a moment.
-    #[inline(always)]
     fn is_at(&self, number: usize, identifier: &[u8], hash: u32, moment: Moment) -> bool
         requires hash { hash ≡ hash_of identifier.now }
         requires within { number < length self.now.entries }

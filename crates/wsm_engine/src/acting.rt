@@ -33,7 +33,6 @@ pub struct Done {
 
 impl Done {
     // Of an event that puts no record into a pane and fires none.
-    #[inline(always)]
     fn nothing() -> Done
         ensures { result ≡ record { selected = false; record_steps = 0; tally = nothing } }
     {
@@ -72,6 +71,7 @@ pub fn act(
                 };
                 take_record(operator, verified, arrival, values)
             }
+            // No rule takes another event as a record.
             _ => Done::nothing(),
         },
         Ok(Admitted::Watermark { old, new }) => Done {

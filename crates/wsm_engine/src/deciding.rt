@@ -115,8 +115,8 @@ impl Decider {
         }
     }
 
-    // Decides on the next event by all rules. The admission goes by its own count, so the limit is looked at behind it: a record that
-    // it takes past the limit is not counted among those that were handed over, and is refused.
+    // Decides on the next event by all rules. The admission goes by its own count, so the limit is looked at behind it. A record that
+    // it took past the limit is refused: since it has counted that one, one less counts as handed over, so that their sum stays.
     fn decide_judged(
         &mut self,
         schema: &Schema,

@@ -62,7 +62,7 @@ impl WindowState {
     }
 }
 
-// Tells the streams which rows stand no more once a record is put in, whatever the plan and the mark.
+// Tells the streams which rows stand no more once a record is put in. They are the same at each mark.
 fn lose_joined(streams: &mut Streams, held: &HeldPanes, key: u16, time: i64)
     requires { CanLoseJoined streams.old held.now key time }
     ensures told { TellsEntered streams.old streams.new held.now key time }

@@ -26,7 +26,8 @@ pub fn windows_of_record(verified: &Verified, time: i64, mark: i64) -> Windows
     live_windows_of(header.shape, time, header.clock.lateness, mark)
 }
 
-/// Where the first pane is that can fire as a watermark rises from one mark to another.
+/// Where the first pane is that can fire as a watermark rises from one mark to another. `expired` is the last end of windows that
+/// aren't live at the new one.
 #[inline(always)]
 pub fn first_to_fire(held: &HeldPanes, expired: i64, old: i64, new: i64) -> Option<Spot>
     requires { expired ≤ℤ new }

@@ -48,7 +48,6 @@ impl WindowState {
 }
 
 // Writes the row of a firing, where HAVING is true and rows are those of panes.
-#[inline(always)]
 fn write(form: Form, rows: &mut TurnRows, due: Due, row: Option<&[Cell]>)
     requires room { length rows.old.written < rows.old.room }
     requires few { IfSome row (λ cells. length cells.now ≤ MAX_COLUMNS) }

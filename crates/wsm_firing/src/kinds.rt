@@ -18,7 +18,6 @@ use wsm_triggers::{Trigger, on_record, on_watermark};
 use wsm_windows::{PaneKind, Place};
 
 /// What a pane with so many unshown records fires as on the turn of a record in it, at a mark.
-#[inline(always)]
 pub fn record_kind(verified: &Verified, mark: i64, place: Place, unshown: u64) -> Option<PaneKind>
     requires { FitsSigned w64 place.end }
     ensures { result ≡ kind_on_record (query_of verified.now) mark place.end unshown }
@@ -44,7 +43,6 @@ pub fn is_called(verified: &Verified, held: &HeldPanes, mark: i64, place: Place)
 }
 
 /// What a pane fires as on the turn of a watermark that rises from one mark to another.
-#[inline(always)]
 pub fn watermark_kind(
     header: &Header,
     old: i64,

@@ -50,7 +50,6 @@ pub fn run<'a>(
 }
 
 // The cells of a row, if it is written.
-#[inline(always)]
 fn written(emits: bool, cells: &[Cell]) -> Option<&[Cell]>
     ensures { option_map (λ cells. cells.now) result ≡ (if emits then Some cells.now else None) }
 {

@@ -90,7 +90,6 @@ impl Streams {
     }
 
     /// The same of a pane that is held, which is read only where rows are those of the relation.
-    #[inline(always)]
     pub(crate) fn lose_held(&mut self, held: &HeldPanes, spot: Spot)
         requires held { IsHeldAt held.now spot }
         requires can { CanLoseHeld held.now spot self.old }
@@ -127,7 +126,6 @@ impl Streams {
     }
 
     /// The relation gains a row, if there is one.
-    #[inline(always)]
     pub(crate) fn gain(&mut self, row: Option<&[Cell]>)
         requires few { IfSome row (λ cells. length cells.now ≤ MAX_COLUMNS) }
         requires can { CanGain self.old (option_map (λ cells. cells.now) row) }

@@ -26,7 +26,6 @@ impl Tally {
     }
 
     /// Counts a firing that executed so many instructions.
-    #[inline(always)]
     pub(crate) fn count(&mut self, steps: u64)
         requires fired { self.old.fired + 1 < 2 ^ 64 }
         requires steps { self.old.steps_total + steps < 2 ^ 64 }

@@ -1,4 +1,7 @@
-//! Cuts rows down to those that a run needs to go on.
+//! Which rows a run needs to go on, of any query.
+//!
+//! A [`Keeper`] is told of the event of each row what it does, as [`Judged`], and keeps the rows that may stay; [`Remains`] are those
+//! that do. What an event does is found in `wsm_cut`, and rows are cut in `wsm_kept`.
 #![tactic(auto)]
 
 pub use firsts::Firsts;

@@ -4,7 +4,7 @@ ghost use Rattle.wsm_lines.specs.Fault.{fault_word};
 
 use std::alloc::{AllocError, AllocFailed};
 
-/// Why a line says no event: the first that holds, in this order.
+/// Why a line says no event: the first that holds, in this order, but that of CSV `BadHeader` comes first, then `Header`.
 #[derive(Clone, Copy, Debug, PartialEq, Eq)]
 pub enum LineFault {
     /// It has more bytes than the source lets a line have.

@@ -32,7 +32,7 @@ pub struct Header {
 pub enum Heading {
     /// No line was read.
     Unread,
-    /// The first line is no header, as in all forms but CSV.
+    /// The first line was read, and is no header: so it is in all forms but CSV.
     Broken,
     /// A header.
     Known(Header),
@@ -92,7 +92,7 @@ fn first_fault(heading: &Heading) -> LineFault
     }
 }
 
-/// Answers whether the next line of a log without a header is the first; after it there is none.
+/// Answers whether the next line of a log is the first, where its form has no header. From then on none is.
 pub(crate) fn begin(heading: &mut Heading) -> bool
     ensures first { result ≡ is_unread (heading_seen heading.old) }
     ensures heading { heading_seen heading.new ≡ broken }

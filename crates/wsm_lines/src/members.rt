@@ -13,7 +13,6 @@ use std::alloc::Global;
 const ROOM: usize = 8;
 
 // Puts a member behind the others.
-#[inline(always)]
 fn add<'a>(found: &mut Vec<(&'a str, Value<'a>)>, member: (&'a str, Value<'a>)) -> Result<(), Error>
     ensures ok { OnOk result (found.new.items ≡ found.old.items ++ member.entry ∷ []) }
     ensures valid { result ≢ Err Error.Invalid }

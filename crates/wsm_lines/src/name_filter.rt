@@ -26,7 +26,6 @@ impl NameFilter {
     }
 
     /// Whether a name passes.
-    #[inline(always)]
     pub(crate) fn passes(&self, name: &[u8]) -> bool
         ensures { result ≡ passes self.now.buckets name.now }
     {
@@ -35,7 +34,6 @@ impl NameFilter {
 }
 
 // The first byte of a name, 0 where it has none.
-#[inline(always)]
 fn first_byte(name: &[u8]) -> u8
     ensures { result ≡ slice_index name.now 0 }
 {
@@ -46,7 +44,6 @@ fn first_byte(name: &[u8]) -> u8
 }
 
 // The bucket of a name, by its length and its first byte.
-#[inline(always)]
 fn bucket_of(name: &[u8]) -> usize
     ensures value { result ≡ bucket_of name.now }
     ensures within { result < 256 }

@@ -1,4 +1,4 @@
-//! Lines of CSV.
+//! Lines of CSV: a header, and the rows below it. Rows of a query's own form are read in `tagged`.
 ghost use Rattle.std.specs.Prelude.{◌≡◌, ◌≢◌, IfErr, OnOk, Err, false};
 ghost use Rattle.wsm_parts.specs.Csv.{cells_of};
 ghost use Rattle.wsm_lines.specs.Fault.{IfFault, on_ok};

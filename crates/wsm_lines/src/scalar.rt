@@ -44,7 +44,6 @@ fn is_same(key: &str, name: &str) -> bool
 }
 
 // Whether two names are the same. Most have other lengths, which is told here.
-#[inline(always)]
 fn is_named(key: &str, name: &str) -> bool
     ensures { result ≡ bytes_eq key.now name.now }
 {
@@ -134,7 +133,6 @@ fn json_at<'v>(value: &'v Value<'_>, names: &[Word]) -> Scalar<'v>
 }
 
 // What a cell is.
-#[inline(always)]
 fn of_cell(cell: &[u8]) -> Scalar<'_>
     ensures { scalar_seen result ≡ of_cell cell.now }
 {

@@ -25,7 +25,6 @@ impl Model for ShortText {
 }
 
 // Writes a text over the first bytes.
-#[inline(always)]
 fn write(bytes: &mut [u8; LONGEST_TEXT], text: &[u8])
     requires { length text.now ≤ LONGEST_TEXT }
     ensures { take (length text.now) bytes.new ≡ text.now }
@@ -45,7 +44,6 @@ impl ShortText {
     }
 
     /// Has no byte stand there.
-    #[inline(always)]
     pub(crate) fn clear(&mut self)
         ensures { self.new ≡ [] }
     {
@@ -53,7 +51,6 @@ impl ShortText {
     }
 
     /// Has a text stand there in place of another.
-    #[inline(always)]
     pub(crate) fn set(&mut self, text: &[u8])
         requires { length text.now ≤ LONGEST_TEXT }
         ensures { self.new ≡ text.now }
@@ -63,7 +60,6 @@ impl ShortText {
     }
 
     /// Its bytes.
-    #[inline(always)]
     pub(crate) fn as_slice(&self) -> &[u8]
         ensures { result.now ≡ self.now }
     {

@@ -102,7 +102,6 @@ pub(crate) fn count_before(row: &SlotRow, slots: &Slots, place: Place) -> usize
 
 // How many entries stand before a place, where the numbers lie side by side. In which half it is can't
 // be foretold, so no branch is taken by it.
-#[inline(always)]
 fn count_in(numbers: &[u32], slots: &Slots, place: Place) -> usize
     requires { AreStored slots.now.slots numbers.now }
     ensures count { result ≡ before place_cmp place (shown slots.now.slots numbers.now) }
@@ -126,7 +125,6 @@ fn count_in(numbers: &[u32], slots: &Slots, place: Place) -> usize
 
 /// The number of the entry at a place, which is there. Where a slot that is guessed has it, the slot is
 /// looked for, and no place compared.
-#[inline(always)]
 pub(crate) fn number_at(row: &SlotRow, slots: &Slots, guess: usize, place: Place) -> usize
     requires stored { AreStored slots.now.slots row.now.row }
     requires listed { AreListed slots.now.slots row.now.row }
@@ -143,7 +141,6 @@ pub(crate) fn number_at(row: &SlotRow, slots: &Slots, guess: usize, place: Place
 
 // The number of the slot that has the place, where numbers lie side by side and it is one of the first
 // whose windows end when the place's does.
-#[inline(always)]
 fn number_of_slot(row: &SlotRow, slots: &Slots, slot: usize, place: Place) -> Option<usize>
     requires stored { AreStored slots.now.slots row.now.row }
     requires there { IsSlotOf slots.now.slots row.now.row place slot }
@@ -162,7 +159,6 @@ fn number_of_slot(row: &SlotRow, slots: &Slots, slot: usize, place: Place) -> Op
 }
 
 // The next number, or the same where the slot stands there. No branch is taken by it.
-#[inline(always)]
 fn past_another(numbers: &[u32], slot: usize, at: usize) -> usize
     requires { at < length numbers.now }
     ensures { (number : ℕ) → slice_get numbers.now number ≡ Some slot → at ≤ number → result ≤ number }
@@ -199,7 +195,6 @@ fn count_ending_before(numbers: &[u32], slots: &Slots, end: i64) -> usize
 }
 
 // Whether the entry of a number has a window that ends before a time.
-#[inline(always)]
 fn ends_before(numbers: &[u32], slots: &Slots, at: usize, end: i64) -> bool
     requires stored { AreStored slots.now.slots numbers.now }
     requires within { at < length numbers.now }
@@ -209,7 +204,6 @@ fn ends_before(numbers: &[u32], slots: &Slots, at: usize, end: i64) -> bool
 }
 
 // Whether a place has a window that ends before a time.
-#[inline(always)]
 fn ends_earlier(place: Place, end: i64) -> bool
     ensures { result ≡ int_lt place.end end }
 {
@@ -217,7 +211,6 @@ fn ends_earlier(place: Place, end: i64) -> bool
 }
 
 // The place of the entry of a number, where the numbers lie side by side.
-#[inline(always)]
 fn place_of(numbers: &[u32], slots: &Slots, at: usize) -> Place
     requires stored { AreStored slots.now.slots numbers.now }
     requires within { at < length numbers.now }
@@ -229,7 +222,6 @@ fn place_of(numbers: &[u32], slots: &Slots, at: usize) -> Place
 // How many entries stand before a place, where each number is asked for. No branch is taken by what it
 // finds here either.
 #[cold]
-#[inline(never)]
 fn count_by_number(row: &SlotRow, slots: &Slots, place: Place) -> usize
     requires { AreStored slots.now.slots row.now.row }
     ensures count { result ≡ before place_cmp place (shown slots.now.slots row.now.row) }
@@ -252,7 +244,6 @@ fn count_by_number(row: &SlotRow, slots: &Slots, place: Place) -> usize
 }
 
 // Whether a place stands before another. All parts are compared, so that no branch is taken.
-#[inline(always)]
 fn is_before(place: Place, other: Place) -> bool
     ensures { result ≡ is_gt (place_cmp other place) }
 {

@@ -1,3 +1,5 @@
+//! Sources that are read, and refusals as they are told of.
+
 use std::test::Fail;
 use wsm_description::{Format, describe};
 

@@ -1,3 +1,5 @@
+//! Sources bound to a query, as they are told of.
+
 use std::test::Fail;
 use wsm_record::{Field, Name, Schema, Ty};
 use wsm_source::{SourceRefusal, bind, describe};

@@ -1,3 +1,5 @@
+//! Local times by the table of a zone.
+
 use std::alloc::Global;
 use std::test::Fail;
 use wsm_values::{Fold, LocalForm, TimeForm, Unit, Word, Zone, ZoneFault, time_of};

@@ -89,7 +89,6 @@ impl NamedLines {
 
     // Learns the text of the key of the event that was read last, where it may be, and numbers it.
     #[cold]
-    #[inline(never)]
     fn learn(&mut self, names: &mut KeyNames) -> Result<(), LineRefusal>
         ensures event { OnOk result (event_read self.new.reader ≡ with_key (position (bytes_eq (key_read self.old.reader)) names.new) (event_read self.old.reader)) }
         ensures identifier { identifier_read self.new.reader ≡ identifier_read self.old.reader }

@@ -150,7 +150,6 @@ impl HeldPanes {
     }
 
     /// Whether windows are sessions.
-    #[inline(always)]
     pub fn has_sessions(&self) -> bool
         ensures sessions { result ≡ are_sessions self.now.shape }
         ensures shape { IsShape self.now.shape }

@@ -115,7 +115,6 @@ fn end_cell(cursor: Cursor, end: usize, spans: &mut Vec<Span>) -> Result<(), All
 }
 
 // The row with the byte at a place.
-#[inline(always)]
 fn advance(
     separator: u8,
     line: &[u8],

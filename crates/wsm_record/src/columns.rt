@@ -47,7 +47,6 @@ impl Columns {
     }
 
     /// Columns of these cells.
-    #[inline(always)]
     pub fn of(cells: &[Cell]) -> Columns
         requires { length cells.now ≤ MAX_COLUMNS }
         ensures { result ≡ cells.now }
@@ -58,7 +57,6 @@ impl Columns {
     }
 
     /// Has columns of these cells where there are none.
-    #[inline(always)]
     pub fn fill(&mut self, cells: &[Cell])
         requires empty { self.old ≡ [] }
         requires few { length cells.now ≤ MAX_COLUMNS }
@@ -91,7 +89,6 @@ impl Columns {
     }
 
     /// Adds a column on the right.
-    #[inline(always)]
     pub fn push(&mut self, cell: Cell)
         requires { length self.old < MAX_COLUMNS }
         ensures { self.new ≡ self.old ++ cell ∷ [] }

@@ -8,7 +8,6 @@ const SPREAD: u64 = 0x9E37_79B9_7F4A_7C15;
 
 /// The place of a mark, by the first bits of what it is spread to: few marks share one. The shift says how
 /// many bits a place hasn't.
-#[inline(always)]
 pub fn place_of(mark: u64, shift: u32) -> usize {
     mark.wrapping_mul(SPREAD).wrapping_shr(shift) as usize
 }
@@ -71,7 +70,6 @@ pub fn sum_of(text: &[u8]) -> u64 {
         .wrapping_add(four_at(text, len - 4))
 }
 
-#[inline(always)]
 fn four_at(text: &[u8], start: usize) -> u64
     requires { start + 4 ≤ length text.now }
 {

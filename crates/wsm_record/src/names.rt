@@ -165,7 +165,6 @@ impl Names {
 
     // The number of the name with these bytes, without a guess.
     #[cold]
-    #[inline(never)]
     fn search(&self, text: &[u8]) -> Option<u16>
         ensures { result ≡ position (bytes_eq text.now) self.now }
     {

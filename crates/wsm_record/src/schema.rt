@@ -199,6 +199,7 @@ impl Schema {
     }
 
     /// The number of the key with these bytes, if it is declared.
+    #[inline(always)]
     pub fn key_number(&self, text: &[u8]) -> Option<u32>
         ensures { result ≡ position (bytes_eq text.now) self.now.keys }
     {

@@ -18,7 +18,6 @@ pub enum Mode {
 impl Mode {
     /// Whether a firing is computed over all records of its pane, and not over those alone that no
     /// earlier firing showed.
-    #[inline(always)]
     pub fn is_over_all(self) -> bool
         ensures { result ≡ is_over_all self }
     {
@@ -29,7 +28,6 @@ impl Mode {
     }
 
     /// Whether what stood for a pane is withdrawn.
-    #[inline(always)]
     pub fn retracts(self) -> bool
         ensures { result ≡ retracts self }
     {

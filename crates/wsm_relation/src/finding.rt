@@ -43,7 +43,6 @@ fn place_within(rows: &[Columns], steps: &[Step], row: &[Cell]) -> usize
 }
 
 /// The number of a row that so many stand before, 0 where it is not there.
-#[inline(always)]
 pub(crate) fn number_at(rows: &[Columns], steps: &[Step], at: usize, row: &[Cell]) -> i64
     requires delta { IsDelta (steps_in rows.now steps.now) }
     requires at { at ≡ passed row.now (rows_of (steps_in rows.now steps.now)) }
@@ -56,7 +55,6 @@ pub(crate) fn number_at(rows: &[Columns], steps: &[Step], at: usize, row: &[Cell
 }
 
 // The number of a row that no other stands before, 0 where it is not there.
-#[inline(always)]
 fn first_number(rows: &[Columns], steps: &[Step], row: &[Cell]) -> i64
     requires delta { IsDelta (steps_in rows.now steps.now) }
     requires first { passed row.now (rows_of (steps_in rows.now steps.now)) ≡ 0 }

@@ -22,7 +22,6 @@ pub fn row_order(row: &[Cell], other: &[Cell]) -> Ordering
 }
 
 // How two cells compare, which are mostly numbers.
-#[inline(always)]
 fn cell_order(cell: &Cell, other: &Cell) -> Ordering
     ensures { result ≡ cell_cmp cell.now other.now }
 {

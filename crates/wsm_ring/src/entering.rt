@@ -1,4 +1,4 @@
-//! What a record does to a table of panes.
+//! What a record does to a table of panes whose windows lie on a grid.
 
 ghost use Rattle.std.specs.Prelude.{◌≡◌, ◌∷◌, [], length, IfSome};
 ghost use Rattle.std.specs.FinMap as map;
@@ -10,7 +10,6 @@ use wsm_windows::Window;
 
 /// Puts a record into the panes of the windows that have its time inside and end past another. Tells how many they
 /// are, and which it is where there is one alone that is at hand.
-#[inline(always)]
 pub fn enter_windows(
     table: &mut RingTable,
     kinds: &[Kind],

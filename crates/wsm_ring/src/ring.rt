@@ -57,7 +57,6 @@ impl Ring {
     }
 
     // Whether windows are fixed, and that of a row has a time inside and ends past another, so that no other does.
-    #[inline(always)]
     pub(crate) fn is_alone(self, row: Row, time: i64, past: i64) -> bool
         requires size { self.size ≤ℤ greatest_span }
         requires low { pos 1 ≤ℤ self.size }
@@ -157,7 +156,6 @@ impl Ring {
     }
 
     // The slot of a place.
-    #[inline(always)]
     pub(crate) fn slot(self, place: Place) -> usize
         requires { IsRing self }
         ensures { result ≡ ring.slot_of self place }
@@ -167,7 +165,6 @@ impl Ring {
 
     // The slot of a place, where the row of a window is known. The last record was put into the first of its
     // windows, so mostly it is that row, and nothing is divided.
-    #[inline(always)]
     pub(crate) fn slot_beside(self, known: Row, place: Place) -> usize
         requires ring { IsRing self }
         requires known { IsRow self known }
@@ -182,7 +179,6 @@ impl Ring {
 
     // The slot of a place whose row isn't known. That is seldom asked, so it isn't inlined.
     #[cold]
-    #[inline(never)]
     fn far_slot(self, place: Place) -> usize
         requires { IsRing self }
         ensures { result ≡ ring.slot_of self place }

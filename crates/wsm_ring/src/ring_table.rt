@@ -33,7 +33,7 @@ pub struct RingTable {
     // No pane is held of a window that starts before the first start or after the last one.
     first: i64,
     last: i64,
-    // Of the first window that has the time of the last record inside.
+    // That of the first window that was asked for last, mostly for the last record.
     row: Row,
 }
 
@@ -89,7 +89,6 @@ impl RingTable {
 
     /// The row of the only window that has a time inside and ends past another, where windows are fixed and it is that of
     /// the last record. Mostly it is, and no row is looked for.
-    #[inline(always)]
     pub(crate) fn only_row(&self, time: i64, past: i64) -> Option<Row>
         requires size { self.now.ring.size ≤ℤ greatest_span }
         requires time { IsTime time }
@@ -106,7 +105,7 @@ impl RingTable {
         }
     }
 
-    /// The row of the first window that has a time inside.
+    /// The row of the first window that has a time inside. It is taken note of.
     pub(crate) fn first_row(&mut self, time: i64) -> Row
         requires size { self.old.ring.size ≤ℤ greatest_span }
         requires time { IsTime time }
@@ -162,7 +161,6 @@ impl RingTable {
     }
 
     /// The pane at a spot.
-    #[inline(always)]
     pub fn pane(&self, spot: Spot) -> PaneView<'_>
         requires there { IsSome (map.get self.now.panes spot.place) }
         requires spot { HasSlot self.now.ring spot }

@@ -36,7 +36,6 @@ pub(crate) fn first_until(
 
 /// The slot of the first entry from a window and a key on, if that window starts by a last time. The
 /// row is the window's.
-#[inline(always)]
 pub(crate) fn first_on(
     ring: Ring,
     slots: &Slots,
@@ -62,7 +61,6 @@ pub(crate) fn first_on(
 }
 
 /// Where the entry in a slot is, if one was found.
-#[inline(always)]
 pub(crate) fn spot_in(slots: &Slots, found: Option<usize>) -> Option<Spot>
     requires { is_some (at_slot slots.now.slots found) ≡ is_some found }
     ensures place { place_found result ≡ option_map (λ e. e.0) (at_slot slots.now.slots found) }

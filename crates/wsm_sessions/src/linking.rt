@@ -88,7 +88,6 @@ pub(crate) fn joined(session: Window, next: Window) -> Window
 }
 
 // How many windows end by a time, where those come first. Mostly they are all, or all but the newest.
-#[inline(always)]
 fn ended_by(windows: &TieredList<Window>, time: i64) -> usize
     requires { IsPartitionedBy (ends_by time) windows.now.items }
     ensures count { result ≡ length (filter (ends_by time) windows.now.items) }
@@ -126,7 +125,6 @@ pub(crate) fn count_ended(windows: &TieredList<Window>, time: i64) -> usize
 }
 
 // Whether the window in front of a place ends by a time, if there is one.
-#[inline(always)]
 fn is_ended_at(windows: &TieredList<Window>, place: usize, time: i64) -> bool
     requires { place ≤ length windows.now.items }
     ensures { result ≡ spec.is_ended_at time windows.now.items place }
@@ -142,7 +140,6 @@ fn ends_by(window: Window, time: i64) -> bool
 }
 
 // Whether there is a window at a place, and it starts before a time.
-#[inline(always)]
 fn starts_before(windows: &TieredList<Window>, i: usize, time: i64) -> bool
     ensures { result ≡ spec.starts_before time windows.now.items i }
 {

@@ -132,6 +132,7 @@ impl Sessions {
     }
 
     // Puts a time into the sessions that it is linked to, or into one of its own, as was found.
+    #[inline(always)]
     fn put(&mut self, time: i64, found: Placed)
         requires time { IsTime time }
         requires admits { spec.admits self.old time ≡ true }
@@ -174,6 +175,7 @@ impl Sessions {
 
 // Puts a time into sessions, where it was found what it does to them, and room is left or it is
 // linked to one.
+#[inline(always)]
 fn put_time(windows: &mut TieredList<Window>, gap: i64, time: i64, found: Placed)
     requires gap_low { pos 1 ≤ℤ gap }
     requires gap_high { gap ≤ℤ greatest_span }

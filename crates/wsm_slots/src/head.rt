@@ -97,7 +97,6 @@ impl Head {
     }
 
     /// Whether there is an entry.
-    #[inline(always)]
     pub(crate) fn is_held(&self) -> bool
         ensures { result ≡ is_held self.now.holds }
     {
@@ -108,7 +107,6 @@ impl Head {
     }
 
     /// Whether there are records that the next firing is computed over.
-    #[inline(always)]
     pub(crate) fn is_folded(&self) -> bool
         ensures { result ≡ is_folded self.now.holds }
     {
@@ -150,7 +148,6 @@ impl Head {
     }
 
     /// Has the pane have fired, with a row of these kinds of cells or with none.
-    #[inline(always)]
     pub(crate) fn fire(&mut self, mode: Mode, has_row: bool, kinds: u32)
         ensures { self.new ≡ head_fired mode has_row kinds self.old }
     {
@@ -179,7 +176,6 @@ fn holding(is_folded: bool) -> Holds
 }
 
 // What is held with no records that the next firing is computed over.
-#[inline(always)]
 fn emptied(holds: Holds) -> Holds
     ensures { result ≡ unfolded holds }
 {

@@ -29,7 +29,6 @@ impl<'a> RowWords<'a> {
     }
 
     /// Has columns of the cells where there are none.
-    #[inline(always)]
     pub(crate) fn fill(&self, columns: &mut Columns)
         requires empty { columns.old ≡ [] }
         requires few { length self.now.words.now ≤ MAX_COLUMNS }
@@ -44,7 +43,6 @@ impl<'a> RowWords<'a> {
 }
 
 /// Writes the cells of a row as words, and tells their kinds.
-#[inline(always)]
 pub(crate) fn write_cells(words: &mut [i64], cells: &[Cell]) -> u32
     requires few { length cells.now ≤ MAX_COLUMNS }
     requires room { length words.old ≡ length cells.now }
@@ -61,7 +59,6 @@ pub(crate) fn write_cells(words: &mut [i64], cells: &[Cell]) -> u32
 }
 
 // The number of a cell's kind.
-#[inline(always)]
 fn kind_of(cell: Cell) -> u32
     ensures { result ≡ spec.kind_of cell }
 {
@@ -73,7 +70,6 @@ fn kind_of(cell: Cell) -> u32
 }
 
 // The word of a cell.
-#[inline(always)]
 fn word_of(cell: Cell) -> i64
     ensures { cell_by (spec.kind_of cell) result ≡ cell }
 {
@@ -85,7 +81,6 @@ fn word_of(cell: Cell) -> i64
 }
 
 // The cell of a kind that a word stands for.
-#[inline(always)]
 fn cell_of(kind: u32, word: i64) -> Cell
     ensures { result ≡ cell_by kind word }
 {
@@ -97,7 +92,6 @@ fn cell_of(kind: u32, word: i64) -> Cell
 }
 
 // The name of an ENUM that a number stands for.
-#[inline(always)]
 fn name_of(number: u64) -> Cell
     ensures { result ≡ cells.Enum (number / 65536 % 256) (number % 65536) }
 {

@@ -83,7 +83,6 @@ impl Slots {
     }
 
     /// The place of the entry in a slot, if there is one.
-    #[inline(always)]
     pub fn place(&self, slot: usize) -> Option<Place>
         requires { slot < length self.now.slots }
         ensures { result ≡ option_map (λ e. e.0) (slot_at self.now.slots slot) }
@@ -105,7 +104,6 @@ impl Slots {
     }
 
     /// The pane in a slot.
-    #[inline(always)]
     pub fn pane(&self, slot: usize) -> PaneView<'_>
         requires { IsTrue (is_some (slot_at self.now.slots slot)) }
         ensures same { option_map (λ e. e.1) (slot_at self.now.slots slot) ≡ Some result }
@@ -129,7 +127,6 @@ impl Slots {
 
     /// Has a slot have a place with a pane of one record, which is folded by the values.
     #[cold]
-    #[inline(never)]
     pub fn start(&mut self, slot: usize, place: Place, values: &[Value])
         requires slot { slot < length self.old.slots }
         requires wide { length values.now ≡ self.old.widths.accumulators }
@@ -176,7 +173,6 @@ impl Slots {
     }
 
     /// Has the pane in a slot, if there is one, have fired.
-    #[inline(always)]
     pub fn fire(&mut self, slot: usize, mode: Mode, row: Option<&[Cell]>)
         requires slot { slot < length self.old.slots }
         requires wide { IfSome row (λ cells. length cells.now ≡ self.old.widths.columns) }
@@ -200,7 +196,6 @@ impl Slots {
 }
 
 /// Whether a slot has the pane at a place.
-#[inline(always)]
 pub fn is_at(slots: &Slots, slot: usize, place: Place) -> bool
     ensures { result ≡ is_some (pane_of place (slot_at slots.now.slots slot)) }
 {
@@ -215,7 +210,6 @@ pub fn is_at(slots: &Slots, slot: usize, place: Place) -> bool
 }
 
 // The values of a slot, among those of slots that have so many each.
-#[inline(always)]
 fn part<T: Copy>(values: &[T], slot: usize, width: usize) -> &[T]
     requires { HasPart slot width values.now }
     ensures { result.now ≡ part_at slot width values.now }
@@ -245,7 +239,6 @@ fn write_any<T: Copy>(values: &mut [T], slot: usize, part: Option<&[T]>)
 
 // Writes the row of a slot, if there is one, as words among those of slots that have as many each.
 // Tells the kinds of its cells.
-#[inline(always)]
 fn write_row(words: &mut [i64], slot: usize, row: Option<&[Cell]>) -> u32
     requires few { IfSome row (λ cells. length cells.now ≤ MAX_COLUMNS) }
     requires part { IfSome row (λ cells. HasPart slot (length cells.now) words.old) }
@@ -259,7 +252,6 @@ fn write_row(words: &mut [i64], slot: usize, row: Option<&[Cell]>) -> u32
 
 // Writes a row as the words of a slot, among those of slots that have as many each. Tells the kinds
 // of its cells.
-#[inline(always)]
 fn write_row_part(words: &mut [i64], slot: usize, row: &[Cell]) -> u32
     requires few { length row.now ≤ MAX_COLUMNS }
     requires part { HasPart slot (length row.now) words.old }
@@ -280,7 +272,6 @@ fn cells_of(row: &Option<Columns>) -> Option<&[Cell]>
 }
 
 // The window of a slot, among those of slots, where they are kept.
-#[inline(always)]
 fn window_at(windows: &[Window], slot: usize) -> Option<Window>
     ensures { result ≡ slice_get windows.now slot }
 {
@@ -288,7 +279,6 @@ fn window_at(windows: &[Window], slot: usize) -> Option<Window>
 }
 
 // Writes the window of a slot, if there is one, among those of slots, where they are kept.
-#[inline(always)]
 fn write_window(windows: &mut [Window], slot: usize, window: Option<Window>)
     ensures { windows.new ≡ with_window slot windows.old window }
 {

@@ -18,7 +18,6 @@ pub struct Spot {
 
 impl Spot {
     /// The same spot, put together anew from its fields. A copy would carry along the bytes between them.
-    #[inline(always)]
     pub fn rebuilt(self) -> Spot
         ensures { result ≡ self }
     {
@@ -30,7 +29,6 @@ impl Spot {
 
     /// The same spot, if a call found one. A call hands its answer over in memory, where all that is merged with
     /// it would lie too.
-    #[inline(always)]
     pub fn rebuilt_found(found: Option<Spot>) -> Option<Spot>
         ensures { result ≡ found }
     {
@@ -43,7 +41,6 @@ impl Spot {
 
 /// The same place, put together anew from its fields, for a call that is seldom made. What it is handed
 /// lies in memory, and the place itself need not.
-#[inline(always)]
 pub fn rebuilt_place(place: Place) -> Place
     ensures { result ≡ place }
 {
@@ -52,7 +49,6 @@ pub fn rebuilt_place(place: Place) -> Place
 }
 
 /// The same window, put together anew from its fields, for the same reason.
-#[inline(always)]
 pub fn rebuilt_window(window: Window) -> Window
     ensures { result ≡ window }
 {

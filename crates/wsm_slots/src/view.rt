@@ -114,7 +114,6 @@ impl<'a> PaneView<'a> {
     }
 
     /// Has columns of the row that stands for it where there are none, and tells whether one does.
-    #[inline(always)]
     pub fn read_row(&self, columns: &mut Columns) -> bool
         requires { columns.old ≡ [] }
         ensures { (if result then Some columns.new else None) ≡ kept.standing_row self.now.stands }
@@ -130,7 +129,6 @@ impl<'a> PaneView<'a> {
 
     /// The same view, put together anew from its fields. A call hands its answer over in memory, where all
     /// that is merged with it would lie too.
-    #[inline(always)]
     pub fn rebuilt(self) -> PaneView<'a>
         ensures { result ≡ self.entry }
     {
@@ -148,7 +146,6 @@ impl<'a> PaneView<'a> {
 
 impl<'a> RowView<'a> {
     // The same cells of a row, put together anew.
-    #[inline(always)]
     fn rebuilt(self) -> RowView<'a>
         ensures { result ≡ self.entry }
     {
@@ -163,7 +160,6 @@ impl<'a> RowView<'a> {
 }
 
 // The same window of a firing, put together anew, if there is one.
-#[inline(always)]
 fn rebuilt_stood(stood: Option<Window>) -> Option<Window>
     ensures { result ≡ stood }
 {
@@ -184,7 +180,6 @@ pub(crate) fn row_columns(row: &RowView<'_>) -> Columns
 }
 
 // Has columns of a row where there are none.
-#[inline(always)]
 fn fill_row(row: &RowView<'_>, columns: &mut Columns)
     requires few { IsFew row.now }
     requires empty { columns.old ≡ [] }

@@ -62,9 +62,7 @@ impl<T: Copy + Drop> Far<T> {
     }
 
     /// The item of a number.
-    #[inline(never)]
     #[cold]
-    #[inline(never)]
     pub(crate) fn get(&self, at: usize) -> T
         requires { at < length self.now.items }
         ensures { slice_get self.now.items at ≡ Some result }
@@ -73,7 +71,6 @@ impl<T: Copy + Drop> Far<T> {
     }
 
     /// Puts an item in front of the one of a number, and of those behind it.
-    #[inline(never)]
     pub(crate) fn insert(&mut self, at: usize, item: T)
         requires at { at ≤ length self.old.items }
         requires room { length self.old.items < self.old.room }
@@ -85,7 +82,6 @@ impl<T: Copy + Drop> Far<T> {
     }
 
     /// Takes the item of a number out.
-    #[inline(never)]
     pub(crate) fn remove(&mut self, at: usize) -> T
         requires { at < length self.old.items }
         ensures item { slice_get self.old.items at ≡ Some result }
@@ -98,9 +94,7 @@ impl<T: Copy + Drop> Far<T> {
     }
 
     /// Has another item stand at a number.
-    #[inline(never)]
     #[cold]
-    #[inline(never)]
     pub(crate) fn set(&mut self, at: usize, item: T)
         requires { at < length self.old.items }
         ensures items { self.new.items ≡ set self.old.items at item }

@@ -68,7 +68,6 @@ impl<T: Copy + Drop> TieredList<T> {
     }
 
     /// The item of a number.
-    #[inline(always)]
     pub fn get(&self, at: usize) -> T
         requires { at < length self.now.items }
         ensures { slice_get self.now.items at ≡ Some result }
@@ -81,7 +80,6 @@ impl<T: Copy + Drop> TieredList<T> {
     }
 
     /// The items, where no more are there than lie in a row.
-    #[inline(always)]
     pub fn as_row(&self) -> Option<&[T]>
         ensures { IfSome result (λ row. row.now ≡ self.now.items) }
     {
@@ -133,7 +131,6 @@ impl<T: Copy + Drop> TieredList<T> {
     }
 
     /// Has another item stand at a number.
-    #[inline(always)]
     pub fn set(&mut self, at: usize, item: T)
         requires { at < length self.old.items }
         ensures items { self.new.items ≡ set self.old.items at item }

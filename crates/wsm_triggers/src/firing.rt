@@ -36,7 +36,6 @@ pub fn on_record(trigger: Trigger, mark: i64, end: i64, unshown: u64) -> Option<
 /// What fires on the turn of a watermark that rises from one mark to another, for a live window with
 /// this end: with so many records in the pane, and so many of them unshown. It is `OnTime`, `Final`
 /// or nothing.
-#[inline(always)]
 pub fn on_watermark(
     mode: Mode,
     old: i64,
@@ -81,7 +80,6 @@ fn comes_with(time: i64, old: i64, new: i64, records: u64) -> bool
 
 /// How many records the columns of a pane that fires are computed over: all that it has, or those
 /// that are unshown.
-#[inline(always)]
 pub fn computed_over(mode: Mode, count: u64, unshown: u64) -> u64
     ensures { result ≡ summaries.computed_over mode count unshown }
 {

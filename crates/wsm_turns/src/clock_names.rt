@@ -123,7 +123,6 @@ impl ClockNames {
 
     // Whose clock it is that has a new name.
     #[cold]
-    #[inline(never)]
     fn add(&mut self, name: &[u8]) -> Result<Voice, AllocError>
         requires { is_among name.now self.old.names ≡ false }
         ensures most { self.new.most ≡ self.old.most }

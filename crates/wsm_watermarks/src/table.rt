@@ -122,7 +122,6 @@ impl Table {
     }
 
     /// Takes note of a stamp.
-    #[inline(always)]
     pub fn put(&mut self, stamp: Stamp)
         requires clock { stamp.clock < length self.old.said }
         requires room { self.old.heard < MOST_STAMPS }

@@ -187,7 +187,6 @@ impl Watermarks {
 
 // The watermark that all clocks agree on which speak. From then on those are counted that may raise it.
 #[cold]
-#[inline(never)]
 fn look_at_all(table: &mut Table, clocks: &mut Clocks, rule: Rule, mark: u64) -> u64
     requires { 0 < rule.step }
     ensures mark { result ≡ behind rule (agreed clocks.old.most

@@ -30,7 +30,6 @@ pub fn last_expired(mark: i64, lateness: i64) -> i64
 }
 
 /// The same of a mark that is a time, which every record asks for: nothing is too small for 64 bits.
-#[inline(always)]
 pub(crate) fn last_expired_at(mark: i64, lateness: i64) -> i64
     requires lateness { IsSpan lateness }
     requires mark { IsTime mark }
