@@ -1,8 +1,8 @@
 -- What the words of a live run say, in two parts.
 use Rattle.std.specs.Prelude.{List, codes}
 use Rattle.clap.specs.Words.{Row}
-use Rattle.wsm_words.specs.declared.commands.live.Followed.{Followed}
-use Rattle.wsm_words.specs.declared.commands.live.Following.{Following}
+use Rattle.wsm_words.specs.declared.jobs.Followed.{Followed}
+use Rattle.wsm_words.specs.declared.jobs.Following.{Following}
 use Rattle.wsm_words.specs.Words.{HasOption, Names}
 
 -- it has what the entries say of how a log is followed

@@ -9,6 +9,7 @@ use Rattle.wsm_words.specs.declared.arguments.Argument.{Argument}
 use Rattle.wsm_words.specs.declared.arguments.Argument.TheVariants.{Flag, Valued, Needed, File, OtherFile, RowsFile}
 use Rattle.wsm_words.specs.declared.commands.Subcommand.{Subcommand}
 use Rattle.wsm_words.specs.declared.commands.Subcommand.TheVariants as sub
+use Rattle.wsm_words.specs.declared.commands.Usage.{Usage}
 use Rattle.wsm_words.specs.declared.job.Agreement.{Agreement}
 use Rattle.wsm_words.specs.declared.job.Named.{Named}
 use Rattle.wsm_words.specs.declared.job.Job.{Job}
@@ -57,6 +58,10 @@ with_rules a rules = record a { top = record a.top { rules = a.top.rules ++ rule
 abbrev pub with_shapes : App → List Shape → App
 with_shapes a [] = a
 with_shapes a (shape ∷ shapes) = with_shapes (with_subcommand a shape) shapes
+
+-- a command of this name that takes these words
+abbrev pub usage_shape : Usage → Shape
+usage_shape usage = record (new_shape usage.name.now) { rules = map rule_by usage.arguments.now }
 
 -- run [--program] [--from SOURCE] [--metrics FILE] [--keys FILE] [--new-keys] [--most-keys N] QUERY [ROWS]
 abbrev pub run_shape : Shape

@@ -28,6 +28,7 @@ mod commands;
 mod entries;
 mod help;
 mod job;
+mod jobs;
 mod numbers;
 mod refusal;
 mod version;

@@ -1,24 +1,14 @@
 //! The program's words.
 
 ghost use Rattle.std.specs.Prelude.{◌≡◌, true, IfOk, IfErr, map};
-ghost use Rattle.clap.specs.Words.{fault_of, subcommand_of, subcommand_rows_of, takes};
+ghost use Rattle.clap.specs.Words.{fault_of, subcommand_of, takes};
 ghost use Rattle.wsm_words.specs.Words.{the_app, AnswersFaults, IsJobOf, IsMemory};
 
-use crate::commands::compile::compile_job;
-use crate::commands::deal::deal_job;
-use crate::commands::explain::explain_job;
-use crate::commands::keep::keep_job;
-use crate::commands::live::live_job;
-use crate::commands::migrate::migrate_job;
-use crate::commands::rows::rows_job;
-use crate::commands::run::run_job;
-use crate::commands::verify::verify_job;
-use crate::commands::watermarks::watermarks_job;
 use crate::commands::wsm_command;
 use crate::job::Job;
+use crate::jobs::job_of;
 use crate::refusal::WordsRefusal;
 use crate::version::version_text;
-use clap::ArgMatches;
 use std::alloc::Global;
 
 /// The job that the words ask for, the program's own name first among them. A subcommand is
@@ -38,43 +28,4 @@ pub fn command_of(alloc: Global, words: &[&str]) -> Result<Job, WordsRefusal>
     let version = version_text(alloc)?;
     let matches = wsm_command(alloc, version.as_str())?.try_get_matches_from(words)?;
     job_of(alloc, &matches)
-}
-
-// The job of a parse.
-fn job_of(alloc: Global, matches: &ArgMatches<'_>) -> Result<Job, WordsRefusal>
-    ensures job { IfOk result (IsJobOf (subcommand_rows_of matches.now)) }
-    ensures refused { IfErr result IsMemory }
-{
-    if let Some(inner) = matches.subcommand_matches("run") {
-        return run_job(alloc, inner);
-    }
-    if let Some(inner) = matches.subcommand_matches("compile") {
-        return compile_job(alloc, inner);
-    }
-    if let Some(inner) = matches.subcommand_matches("migrate") {
-        return migrate_job(alloc, inner);
-    }
-    if let Some(inner) = matches.subcommand_matches("verify") {
-        return verify_job(alloc, inner);
-    }
-    if let Some(inner) = matches.subcommand_matches("explain") {
-        return explain_job(alloc, inner);
-    }
-    if let Some(inner) = matches.subcommand_matches("deal") {
-        return deal_job(alloc, inner);
-    }
-    if let Some(inner) = matches.subcommand_matches("rows") {
-        return rows_job(alloc, inner);
-    }
-    if let Some(inner) = matches.subcommand_matches("keep") {
-        return keep_job(alloc, inner);
-    }
-    if let Some(inner) = matches.subcommand_matches("watermarks") {
-        return watermarks_job(alloc, inner);
-    }
-    if let Some(inner) = matches.subcommand_matches("live") {
-        return live_job(alloc, inner);
-    }
-    // This doesn't come: `wsm_command` has no other subcommand, and requires one.
-    Err(WordsRefusal::Memory)
 }

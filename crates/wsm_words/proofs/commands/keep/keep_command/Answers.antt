@@ -1,7 +1,0 @@
-use Rattle.std.proofs.Common.{◌∙◌, ap}
-use Rattle.clap.specs.Words.{App}
-use Rattle.wsm_words.specs.Words.{keep_shape, with_rules}
-use Rattle.wsm_words.proofs.commands.keep.keep_command.Goals as goal
-
-pub returns : goal.returns
-returns c = ap (λ (a : App). a.top) (c.in_ok-keep.ensures ∙ ap (λ (a : App). with_rules a keep_shape.rules) c.command.ensures)
