@@ -1,5 +1,12 @@
 //! What the lines of a log so far come to, by any number of names.
 
+ghost use Rattle.std.specs.Prelude.{◌≤◌, [], IfOk};
+ghost use Rattle.wsm_watermarks.specs.declared.table.TheConstants.{MOST_CLOCKS};
+ghost use Rattle.wsm_turns.specs.Clocks.{AreClocks, named_in};
+ghost use Rattle.wsm_turns.specs.Named.{Knows};
+ghost use Rattle.wsm_turns.specs.Turns.{start_of};
+ghost use Rattle.wsm_turns.specs.Waits.{Hear};
+
 use crate::passing::{identifiers_of, passes, stamp_among};
 use std::alloc::{AllocError, Global};
 use wsm_csv::{Device, DeviceFault, end_text, write_out};
@@ -105,9 +112,8 @@ impl KeyedIntake {
     {
         let count = count_in(clocks, parts.block());
         let records = parts.header().clock.records;
+        let (waiting, voices) = before_lines(alloc, clocks, count)?;
         let identifiers = identifiers_of(alloc, &parts);
-        let waiting = open_clocks(alloc, clocks, count)?;
-        let voices = open_names(alloc, named_in(clocks))?;
         Ok(KeyedIntake {
             told: KeyedTold::of(alloc, parts, names),
             reader: NamedLines::new(alloc, source, most),
@@ -366,4 +372,20 @@ impl KeyedIntake {
     pub fn part_count(&self) -> usize {
         self.told.parts.opened()
     }
+}
+
+// So many clocks with what waits for them, and their names, before the first line.
+fn before_lines(
+    alloc: Global,
+    clocks: Option<Clocks>,
+    count: usize,
+) -> Result<(Option<Waiting>, Option<ClockNames>), AllocError>
+    requires clocks { AreClocks clocks }
+    requires count { count ≤ MOST_CLOCKS }
+    ensures waiting { IfOk result (λ made. Hear clocks count made.0 [] (start_of clocks) []) }
+    ensures voices { IfOk result (λ made. Knows (named_in clocks) made.1 []) }
+{
+    let voices = open_names(alloc, named_in(clocks))?;
+    let waiting = open_clocks(alloc, clocks, count)?;
+    Ok((waiting, voices))
 }

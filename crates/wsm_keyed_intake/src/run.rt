@@ -66,8 +66,9 @@ pub fn run_parts<R: Read + Drop, D: Device, L: Listener>(
     ensures flushed { OnOk result (D.is_flushed out.new ≡ true) }
     ensures write_failed { result ≡ Err LogEnd.WriteFailed → D.has_failed out.new ≡ true }
 {
-    let mut lines = Lines::new(alloc, reader, source.longest)?;
+    let longest = source.longest;
     let mut intake = KeyedIntake::open(alloc, parts, source, clocks, names, most)?;
+    let mut lines = Lines::new(alloc, reader, longest)?;
     let log = take_log(&mut intake, &mut lines, out, listener)?;
     Ok(KeyedLogTotals {
         log,

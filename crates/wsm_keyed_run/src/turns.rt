@@ -11,13 +11,23 @@ use wsm_part_engines::Parts;
 use wsm_record::RowFault;
 
 /// What the turns so far come to: the names and the reader of rows by them, the engines of parts, and the lines of the last turn.
-#[derive(Drop)]
 pub struct KeyedTurns {
     parts: Parts,
     events: NamedEvents,
     lines: Vec<u8>,
     // The rows that were no event.
     faults: u64,
+}
+
+impl Drop for KeyedTurns {
+    fn drop(self) {
+        let KeyedTurns {
+            parts: _,
+            events: _,
+            lines: _,
+            faults: _,
+        } = self;
+    }
 }
 
 impl KeyedTurns {

@@ -11,14 +11,14 @@ use Rattle.wsm_keyed_intake.proofs.run.run_parts.Goals as goal
 nothing : (known : Option (List ℕ)) (k : KeyedLog) (old : Option (List ℕ)) → KeyedLogBroken known k old old Memory
 nothing known k old = ([], record { first = AreFirst-none k.source.longest known; text = Appends-start old })
 
-pub returns-in_err-lines-clause-ends_early : goal.returns-in_err-lines-clause-ends_early
-returns-in_err-lines-clause-ends_early g c =
+pub returns-in_err-intake-clause-ends_early : goal.returns-in_err-intake-clause-ends_early
+returns-in_err-intake-clause-ends_early g c =
     let e = err_from_is_err_and c.from_residual.result c.from_residual.ensures.1 in
     rw (e.1, e.2) (nothing (g.R.Read.remaining c.args.reader) _ (g.D.Device.taken c.args.out.now))
 
-pub returns-in_err-intake-clause-ends_early : goal.returns-in_err-intake-clause-ends_early
-returns-in_err-intake-clause-ends_early g c =
-    let e = err_from_is_err_and c.from_residual-in_err-intake.result c.from_residual-in_err-intake.ensures.1 in
+pub returns-in_err-lines-clause-ends_early : goal.returns-in_err-lines-clause-ends_early
+returns-in_err-lines-clause-ends_early g c =
+    let e = err_from_is_err_and c.from_residual-in_err-lines.result c.from_residual-in_err-lines.ensures.1 in
     rw (e.1, e.2) (nothing (g.R.Read.remaining c.args.reader) _ (g.D.Device.taken c.args.out.now))
 
 pub returns-clause-completes : goal.returns-clause-completes

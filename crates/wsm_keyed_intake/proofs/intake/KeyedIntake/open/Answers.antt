@@ -1,6 +1,5 @@
-use Rattle.std.proofs.Common.{rules, SFits, to_z, of_z, to_z-of_z, w64, ◌∙◌, ◌++◌, ℕ, List, [], Option, length, refl, ap, sym, subst}
+use Rattle.std.proofs.Common.{rules, SFits, to_z, of_z, to_z-of_z, w64, ◌∙◌, ◌++◌, ℕ, List, [], length, refl, ap, sym, subst}
 use Rattle.wsm_turns.specs.Clocks.{count_in}
-use Rattle.wsm_turns.specs.Named.{Knows}
 use Rattle.wsm_turns.specs.Turns.{start_of}
 use Rattle.wsm_turns.specs.Waits.{Hear}
 use Rattle.wsm_keyed_intake.specs.KeyedLog.{KeyedLog, names_of}
@@ -27,10 +26,10 @@ returns-clause-fits c =
               grows = subst (λ (ns : List (List ℕ)). Grows ns all) (sym c.of.ensures.names) (lines_grow g later []);
               waiting = count_same clocks (length c.args.parts.program.header.schema.keys) (length all) c.in_ok-waiting.waiting [] (start_of clocks) [] c.requires.named
                   (subst (λ (n : ℕ). Hear clocks n c.in_ok-waiting.waiting [] (start_of clocks) [])
-                  (c.count_in-count.ensures.count ∙ ap (count_in clocks) c.block.ensures.block) c.in_ok-waiting.ensures);
+                  (c.count_in-count.ensures.count ∙ ap (count_in clocks) c.block.ensures.block) c.in_ok-waiting.ensures.waiting);
               remembers = c.identifiers_of-identifiers.ensures.none clocks all _;
             };
-            voices = subst (λ (n : Option ℕ). Knows n c.in_ok-voices.voices []) c.named_in.ensures c.in_ok-voices.ensures;
+            voices = c.in_ok-waiting.ensures.voices;
             taken = refl;
             faults = refl;
             doubles = refl;
@@ -46,7 +45,7 @@ returns-clause-goes_on c =
       told = c.of.result;
       reader = c.new.result;
       waiting = c.in_ok-waiting.waiting;
-      voices = c.in_ok-voices.voices;
+      voices = c.in_ok-waiting.voices;
       identifiers = c.identifiers_of-identifiers.result;
       records = to_z w64 (of_z w64 c.header.result.now.clock.records);
       first = c.new-2.result;
