@@ -1,6 +1,6 @@
 -- What a keyed intake has come to, as a text. It says the names in their order, which events the parts need and all else as it is; a run
 -- goes on from it as from the lines themselves. The events are those of all parts, the key of each by its number among the names.
-use Rattle.std.specs.Prelude.{◌≡◌, ◌<◌, ◌≤◌, ℕ, ℤ, List, ◌++◌, length, reverse, Option, IsTrue, unsigned_abs}
+use Rattle.std.specs.Prelude.{◌≡◌, ◌<◌, ◌≤◌, ◌&&◌, ℕ, ℤ, nat_lt, Bool, List, ◌++◌, length, reverse, Option, is_some, IsTrue, unsigned_abs}
 use Rattle.wsm_record.specs.Event.{Event}
 use Rattle.wsm_semantics.specs.Query.{Query}
 use Rattle.wsm_program.specs.Program.{Program, is_program}
@@ -20,6 +20,7 @@ use Rattle.wsm_intake.specs.Resuming.{left_behind}
 use Rattle.wsm_intake.specs.Saved.{needed_in_order}
 use Rattle.wsm_intake.specs.Standing.{AreFacts, Facts, Says, facts_text}
 use Rattle.wsm_intake.specs.declared.standing.Standing.{Standing}
+use Rattle.wsm_keyed_intake.specs.declared.intake.KeyedIntake.{KeyedIntake}
 use Rattle.wsm_keyed_intake.specs.KeyedLog.{KeyedLog, declared_by, kept_by, names_of, said_by, setting_by}
 
 -- what is kept of lines by these names and a query whose events these are
@@ -78,3 +79,11 @@ pub record IsReadBy (g : KeyedLog) (records : ℤ) (all : List (List ℕ)) (befo
 pub record IsRead (g : KeyedLog) (before : List (List ℕ)) (text : List ℕ) (saved : Saved g before text) (t : Standing) (known : List (List ℕ)) (events : List Event) : Type 0 where
   pub names : known ≡ names_of g before
   pub by : (later : List (List ℕ)) → IsReadBy g saved.records (names_of g (later ++ before)) before text (saved.by later) t events
+
+-- it can be said what lines come to: there is one, and RECORDS are left behind them
+abbrev pub can_say : KeyedLog → List (List ℕ) → Bool
+can_say g before = let all = names_of g before in nat_lt 0 (length before) && nat_lt 0 (left_behind (of_names g.program all) (kept_by g all before).fed)
+
+-- the events that are needed are kept
+abbrev pub keeps_events : KeyedIntake → Bool
+keeps_events t = is_some t.told.staying

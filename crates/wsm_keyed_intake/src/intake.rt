@@ -88,6 +88,7 @@ impl KeyedIntake {
     ghost use Rattle.wsm_intake.specs.Turns.{line_of};
     ghost use Rattle.wsm_keyed_intake.specs.KeyedLog.{KeyedLog, names_of, query_behind, said_by, setting_by};
     ghost use Rattle.wsm_keyed_intake.specs.GoesOn.{GoesOn, GoneOn};
+    ghost use Rattle.wsm_keyed_intake.specs.Saved.{keeps_events};
     ghost use Rattle.wsm_keyed_intake.specs.Turns.{AreNamed, Ends, Fits, Goes, Holds, IsOpened, Speaks, Turned, spoken_read};
 
     /// Before the first line, by these names, of which there may be so many, with these clocks, where there are any.
@@ -146,7 +147,8 @@ impl KeyedIntake {
         requires texts { are_same source.key.names ≡ true }
         requires clocks { AreClocks clocks }
         requires named { AreNamed clocks }
-        ensures { IfOk result (λ intake. GoesOn (record { program = parts.program; source = source; clocks = clocks; names = names; most = most }) intake []) }
+        ensures goes_on { IfOk result (λ intake. GoesOn (record { program = parts.program; source = source; clocks = clocks; names = names; most = most }) intake []) }
+        ensures keeps { IfOk result (λ intake. keeps_events intake ≡ true) }
     {
         let mut intake = KeyedIntake::open(alloc, parts, source, clocks, names, most)?;
         intake.told.keep(alloc);

@@ -6,6 +6,7 @@ ghost use Rattle.wsm_turns.specs.Clocks.{AreClocks};
 ghost use Rattle.wsm_keyed_intake.specs.Run.{KeyedLogCounted, KeyedLogWritten};
 ghost use Rattle.wsm_keyed_intake.specs.Stops.{IsUnopened, IsUnrun, Stops};
 ghost use Rattle.wsm_keyed_intake.specs.GoesOn.{GoesOn};
+ghost use Rattle.wsm_keyed_intake.specs.Saved.{keeps_events};
 ghost use Rattle.wsm_keyed_intake.specs.Turns.{AreNamed, IsOpened};
 
 use crate::intake::KeyedIntake;
@@ -72,6 +73,7 @@ pub fn open_keyed_log(
     requires { AreClocks clocks }
     ensures goes_on { IfOk result (λ intake.
         GoesOn (record { program = verified; source = source; clocks = clocks; names = names; most = most }) intake []) }
+    ensures keeps { IfOk result (λ intake. keeps_events intake ≡ true) }
     ensures named { OnOk result (AreNamed clocks) }
     ensures unrun { IfErr result (IsUnrun (record { program = verified; source = source; clocks = clocks; names = names; most = most })) }
 {

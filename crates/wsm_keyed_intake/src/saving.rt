@@ -22,13 +22,13 @@ use wsm_saved_turns::{save_clocks, save_doubles, save_names};
 use wsm_turns::{Clocks, Identifiers, count_in};
 
 impl KeyedIntake {
-    ghost use Rattle.std.specs.Prelude.{◌≡◌, ◌++◌, List, ℕ, [], IfOk, IfSome, OnOk, length, map, take, true};
+    ghost use Rattle.std.specs.Prelude.{◌≡◌, ◌&&◌, ◌++◌, List, ℕ, [], IfOk, IfSome, OnOk, length, map, take, true};
     ghost use Rattle.wsm_record.specs.Event.{event_of};
     ghost use Rattle.wsm_turns.specs.Clocks.{AreClocks};
     ghost use Rattle.wsm_keyed_intake.specs.KeyedLog.{KeyedLog};
     ghost use Rattle.wsm_keyed_intake.specs.Turns.{AreNamed};
     ghost use Rattle.wsm_keyed_intake.specs.GoesOn.{GoesOn};
-    ghost use Rattle.wsm_keyed_intake.specs.Saved.{IsRead, Saved};
+    ghost use Rattle.wsm_keyed_intake.specs.Saved.{IsRead, Saved, can_say, keeps_events};
 
     /// Adds a text from which [`KeyedIntake::resume`] goes on, and answers whether it could: no line was taken, all RECORDS of the query
     /// are used up, or the intake doesn't keep the events that its parts need.
@@ -40,6 +40,8 @@ impl KeyedIntake {
         ensures goes_on { (g : KeyedLog) (before : List (List ℕ)) → GoesOn g self.old before → OnOk result (GoesOn g self.new before) }
         ensures saved { (g : KeyedLog) (before : List (List ℕ)) → GoesOn g self.old before →
             IfOk result (λ is_saved. is_saved ≡ true → (t : List ℕ) × (text.new.items ≡ text.old.items ++ t) × Saved g before t) }
+        ensures when { (g : KeyedLog) (before : List (List ℕ)) → GoesOn g self.old before →
+            IfOk result (λ is_saved. is_saved ≡ (can_say g before && keeps_events self.old)) }
         ensures grows { OnOk result (take (length text.old.items) text.new.items ≡ text.old.items) }
     {
         let left = self.told.records_left();

@@ -24,7 +24,7 @@ pub struct KeyedTold {
 }
 
 impl KeyedTold {
-    ghost use Rattle.std.specs.Prelude.{◌≡◌, ◌++◌, [], ℕ, List, true, length, take, IfOk, IsTrue, OnOk};
+    ghost use Rattle.std.specs.Prelude.{◌≡◌, ◌++◌, [], ℕ, List, true, is_some, length, take, IfOk, IsTrue, OnOk};
     ghost use Rattle.wsm_record.specs.declared.words.Form.TheVariants.{Panes};
     ghost use Rattle.wsm_record.specs.Event.{Event as AnyEvent};
     ghost use Rattle.wsm_record.specs.Schema.{Declared};
@@ -57,6 +57,7 @@ impl KeyedTold {
     /// Keeps what stays of the events from now on, where none came yet.
     pub fn keep(&mut self, alloc: Global)
         ensures serves { (p : Program) → Serves p self.old [] → Serves p self.new [] }
+        ensures keeps { is_some self.new.staying ≡ true }
         ensures others { self.new ≡ record self.old { staying = self.new.staying } }
     {
         self.staying = Some(KeyedStaying::open(alloc, &self.parts));
@@ -73,6 +74,7 @@ impl KeyedTold {
         ensures saved { (p : Program) (past : List AnyEvent) → Serves p self.old past →
             IfOk result (λ is_saved. is_saved ≡ true → (all : List (List ℕ)) → AreNamed all past → IsListed (of_names p all) past text.old.items text.new.items) }
         ensures grows { OnOk result (take (length text.old.items) text.new.items ≡ text.old.items) }
+        ensures is_saved { IfOk result (λ is_saved. is_saved ≡ is_some self.old.staying) }
         ensures others { self.new ≡ record self.old { staying = self.new.staying } }
     {
         match &mut self.staying {

@@ -1,6 +1,5 @@
 -- What a journal says as it is opened.
 use Rattle.std.proofs.Common.{◌≡◌, ◌∙◌, ◌-◌, ◌≤◌, ℕ, List, [], ◌∷◌, Option, Some, None, drop, length, map, option_map, slice_get, inl, inr, refl, sym, ap, subst, arith}
-use Rattle.std.specs.Prelude.{Result, Ok, Err, IfOk}
 use Rattle.std.proofs.lemmas.List.{drop_at}
 use Rattle.wsm_numbered.specs.Seen.{count_of, sum_in}
 use Rattle.wsm_journal.specs.Text.{Entry, last_number}
@@ -123,6 +122,14 @@ head_of turn stands states l rows adds =
       entry = ap (λ (r : List ℕ). head_entry r l.position.items) adds.row;
       says = λ by before behind. subst (StandsFor turn states by before) (sym own) (adds.says by before behind);
     }
+
+-- the same of rows that were put behind the row of its head, as these are read
+pub head_put : {F T B : Type 0} (turn : B → Turn) (stands : T → B → List (List ℕ) → Type 0) (states : List ℕ → B → List (List ℕ) → Type 0) (l : Live F T) (head rows seen position : List ℕ)
+    → head ≡ l.head.items → seen ≡ rows → position ≡ l.position.items → AddsCut turn stands states l.run head rows → IsHeadOf turn stands states l (head_entry seen position)
+head_put turn stands states l head rows seen position same_head same_rows same_position said =
+    let own = subst (λ (h : List ℕ). AddsCut turn stands states l.run h rows) same_head said in
+    let adds = subst (λ (r : List ℕ). AddsCut turn stands states l.run l.head.items r) (sym same_rows) own in
+    subst (λ (p : List ℕ). IsHeadOf turn stands states l (head_entry seen p)) (sym same_position) (head_of turn stands states l seen adds)
 
 pub cut_leaves : {F T B : Type 0} (turn : B → Turn) (stands : T → B → List (List ℕ) → Type 0) (states : List ℕ → B → List (List ℕ) → Type 0) (l : Live F T) (e : Entry) (folder : Option Folder)
     → IsHeadOf turn stands states l e → (left : List ℕ) → IsLeftOr folder (e ∷ []) left → IsLeftOrCut turn stands states l folder left

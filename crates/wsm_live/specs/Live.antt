@@ -1,9 +1,9 @@
 -- What a run over a growing log has come to, and what its journal says.
-use Rattle.std.specs.Prelude.{◌≡◌, ◌⊎◌, ℕ, List, [], ◌∷◌, ◌++◌, length, Option, option_map, true}
+use Rattle.std.specs.Prelude.{◌≡◌, ◌⊎◌, ◌&&◌, ℕ, Bool, List, [], ◌∷◌, ◌++◌, length, Option, option_map, true, false}
 use Rattle.wsm_numbered.specs.Numbered.{sum_over}
 use Rattle.wsm_numbered.specs.Seen.{count_of, sum_in}
 use Rattle.wsm_follow.specs.Ended.{ended_lines}
-use Rattle.wsm_journal.specs.Text.{Entry, journal_text}
+use Rattle.wsm_journal.specs.Text.{Entry, are_rows, is_position, journal_text}
 use Rattle.wsm_journal.specs.Folder.{Folder}
 use Rattle.wsm_journal.specs.Calls.{IfKnown, MayLeave}
 use Rattle.wsm_journal.specs.Laws.{IsBeforeOrAfter}
@@ -185,6 +185,16 @@ pub record IsHeadOf {F T B : Type 0} (turn : B → Turn) (stands : T → B → L
   pub text : List ℕ
   pub entry : e ≡ cut_entry l text
   pub says : (by : B) (before : List (List ℕ)) → IsBehind turn stands l.run by before → StandsFor turn states by before (behind_row l.head.items e.rows)
+
+-- a journal can have a head of these rows at this position
+abbrev pub can_be_head : List ℕ → List ℕ → Bool
+can_be_head rows position = are_rows rows && is_position position
+
+-- it can't have such a head
+pub record IsUnfit {F T B : Type 0} (turn : B → Turn) (stands : T → B → List (List ℕ) → Type 0) (states : List ℕ → B → List (List ℕ) → Type 0) (l : Live F T) : Type 0 where
+  pub head : Entry
+  pub is_head : IsHeadOf turn stands states l head
+  pub unfit : can_be_head head.rows head.position ≡ false
 
 -- such a head was put in the place of all records
 pub record IsCut {F T B : Type 0} (turn : B → Turn) (stands : T → B → List (List ℕ) → Type 0) (states : List ℕ → B → List (List ℕ) → Type 0) (l : Live F T) (old new : Option (List Entry)) : Type 0 where

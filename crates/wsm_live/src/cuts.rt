@@ -4,7 +4,7 @@ ghost use Rattle.std.specs.Prelude.{◌≡◌, ◌∷◌, [], true, false, IfErr
 ghost use Rattle.wsm_journal.specs.Text.{IsRecord};
 ghost use Rattle.wsm_journal.specs.Calls.{LeavesSince};
 ghost use Rattle.wsm_journal.specs.Kept.{IsCaused, IsLeftOr, IsOpen, folder_of, is_kept, records_of};
-ghost use Rattle.wsm_live.specs.Live.{head_entry};
+ghost use Rattle.wsm_live.specs.Live.{can_be_head, head_entry};
 
 use std::alloc::{AllocError, Global};
 use wsm_journal::{
@@ -14,7 +14,8 @@ use wsm_journal::{
 
 // Whether a head with these rows, at a position, can be written.
 fn is_head(alloc: Global, rows: &[u8], position: &[u8]) -> Result<bool, AllocError>
-    ensures { IfOk result (λ is. is ≡ true → IsRecord (head_entry rows.now position.now)) }
+    ensures is_record { IfOk result (λ is. is ≡ true → IsRecord (head_entry rows.now position.now)) }
+    ensures when { IfOk result (λ is. is ≡ can_be_head rows.now position.now) }
 {
     let head = Record {
         number: 0,
@@ -44,6 +45,7 @@ pub fn replace_by_head<F: JournalFolder>(
         (λ is_cut. is_cut ≡ true →
         records_of F.folder journal.new ≡ option_map (λ _. head_entry rows.now position.now ∷ []) (records_of F.folder journal.old)) }
     ensures uncut { IfOk result (λ is_cut. is_cut ≡ false → records_of F.folder journal.new ≡ records_of F.folder journal.old) }
+    ensures when { IfOk result (λ is_cut. is_cut ≡ can_be_head rows.now position.now) }
     ensures kept { IfErr result (λ e. is_kept e ≡ true → IsOpen F.folder journal.new × (records_of F.folder journal.new ≡ records_of F.folder journal.old)) }
     ensures any_moment { LeavesSince F.moment F.left_since (folder_of journal.old) (folder_of journal.new)
         (IsLeftOr (F.folder (folder_of journal.old)) (head_entry rows.now position.now ∷ [])) }

@@ -1,6 +1,6 @@
 //! A run over a growing log, and its journal.
 
-ghost use Rattle.std.specs.Prelude.{◌≡◌, ◌++◌, ◌∷◌, [], List, ℕ, IfErr, IfOk, IsErrOf, OnErr, OnOk, false, true, length, map, option_map, slice_get, Some};
+ghost use Rattle.std.specs.Prelude.{◌≡◌, ◌⊎◌, ◌++◌, ◌∷◌, [], List, ℕ, IfErr, IfOk, IsErrOf, OnErr, OnOk, false, true, length, map, option_map, slice_get, Some};
 ghost use Rattle.wsm_journal.specs.Text.{Entry, are_rows, is_position};
 ghost use Rattle.wsm_journal.specs.Reading.{read_journal};
 ghost use Rattle.wsm_journal.specs.Folder.{bytes_of};
@@ -10,7 +10,7 @@ ghost use Rattle.wsm_journal.specs.Seen.{entry_seen};
 ghost use Rattle.wsm_journal.specs.declared.journal_file.JournalFile.{JournalFile as AnyJournal};
 ghost use Rattle.wsm_follow.specs.Ended.{ended_lines, kept_lines};
 ghost use Rattle.wsm_live.specs.HeadSeen.{row_in};
-ghost use Rattle.wsm_live.specs.Live.{AddsCut, GoneOn, IsBegun, IsCut, IsLeftBegun, IsLeftOpened, IsLeftOrCut, IsStill, Opened, Resumed, Took, begun, chunk_lines, error_of, front_of, head_kept, journal_of, last_position, longest_of, name_kept, position_of, rows_of_text, run_of};
+ghost use Rattle.wsm_live.specs.Live.{AddsCut, GoneOn, IsBegun, IsBehind, IsCut, IsLeftBegun, IsLeftOpened, IsLeftOrCut, IsStill, IsUnfit, Opened, Resumed, Took, begun, chunk_lines, error_of, front_of, head_kept, journal_of, last_position, longest_of, name_kept, position_of, rows_of_text, run_of, taker_of};
 ghost use Rattle.wsm_live.specs.declared.live.LiveError.TheVariants.{Memory};
 
 use crate::cuts::replace_by_head;
@@ -114,6 +114,8 @@ fn put_head<T: LineTaker>(
     rows: &mut Vec<u8>,
 ) -> Result<bool, AllocError>
     ensures rows { IfOk result (λ is_said. is_said ≡ true → AddsCut T.turn T.stands T.states run.old head.now rows.new.items) }
+    ensures said { (by : T.By) (before : List (List ℕ)) → IsBehind T.turn T.stands run.old by before →
+        IfOk result (λ is_said. is_said ≡ T.can_say (taker_of run.old) by before) }
     ensures still { OnOk result (IsStill T.turn T.stands run.old run.new) }
     ensures longest { longest_of run.new ≡ longest_of run.old }
 {
@@ -372,7 +374,7 @@ impl<F: JournalFolder, T: LineTaker> Live<F, T> {
     }
 
     /// Puts a head in the place of all records: it says what the lines so far came to, and the run goes on behind it. Answers false
-    /// where that can't be said now; all is as it was then. A power cut at any moment leaves the journal as it was, or that head.
+    /// where that can't be said now, or a journal can't have such a head; all is as it was then. A power cut at any moment leaves the journal as it was, or that head.
     ///
     /// # Errors
     ///
@@ -383,6 +385,10 @@ impl<F: JournalFolder, T: LineTaker> Live<F, T> {
         ensures cut { IfOk result (λ is_cut. is_cut ≡ true →
             IsCut T.turn T.stands T.states self.old (records_of F.folder (journal_of self.old)) (records_of F.folder (journal_of self.new))) }
         ensures uncut { IfOk result (λ is_cut. is_cut ≡ false → records_of F.folder (journal_of self.new) ≡ records_of F.folder (journal_of self.old)) }
+        ensures said { (by : T.By) (before : List (List ℕ)) → IsBehind T.turn T.stands (run_of self.old) by before →
+            IfOk result (λ is_cut. is_cut ≡ true → T.can_say (taker_of (run_of self.old)) by before ≡ true) }
+        ensures unsaid { (by : T.By) (before : List (List ℕ)) → IsBehind T.turn T.stands (run_of self.old) by before →
+            IfOk result (λ is_cut. is_cut ≡ false → (T.can_say (taker_of (run_of self.old)) by before ≡ false) ⊎ IsUnfit T.turn T.stands T.states self.old) }
         ensures still { OnOk result (IsStill T.turn T.stands (run_of self.old) (run_of self.new)) }
         ensures kept { IfErr result (λ e. is_kept e ≡ true →
             IsOpen F.folder (journal_of self.new) × (records_of F.folder (journal_of self.new) ≡ records_of F.folder (journal_of self.old))

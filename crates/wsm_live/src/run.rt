@@ -13,7 +13,7 @@ use wsm_numbered::Numbering;
 ///
 /// What the lines so far come to can be kept as a text, by which another one that took no line goes on as if it had taken them.
 pub trait LineTaker: Drop {
-    ghost use Rattle.std.specs.Prelude.{◌≡◌, ◌∷◌, [], List, ℕ, drop, length, take, true, IfOk, IfSome, OnOk};
+    ghost use Rattle.std.specs.Prelude.{◌≡◌, ◌∷◌, [], Bool, List, ℕ, drop, length, take, true, IfOk, IfSome, OnOk};
     ghost use Rattle.wsm_live.specs.Told.{Turn};
 
     /// By what lines are taken. Two of which the same is written for all lines may go on by texts of their own.
@@ -30,6 +30,9 @@ pub trait LineTaker: Drop {
 
     /// This text says what these lines, the newest first, come to where lines are taken by that.
     ghost states: { List ℕ → By → List (List ℕ) → Type 0 };
+
+    /// Whether it can say so of these lines, the newest first, which it took by that.
+    ghost can_say: { Self → By → List (List ℕ) → Bool };
 
     /// Takes a line.
     ///
@@ -54,6 +57,7 @@ pub trait LineTaker: Drop {
         ensures stands { (by : By) (before : List (List ℕ)) → stands self.old by before → OnOk result (stands self.new by before) }
         ensures states { (by : By) (before : List (List ℕ)) → stands self.old by before →
             IfOk result (λ is_said. is_said ≡ true → states (drop (length text.old.items) text.new.items) by before) }
+        ensures said { (by : By) (before : List (List ℕ)) → stands self.old by before → IfOk result (λ is_said. is_said ≡ can_say self.old by before) }
         ensures grows { OnOk result (take (length text.old.items) text.new.items ≡ text.old.items) };
 
     /// Goes on from such a text, where no line was taken: what it says counts as taken. None where it can't be read.
@@ -136,6 +140,8 @@ impl<T: LineTaker> LiveRun<T> {
     pub fn save(&mut self, rows: &mut Vec<u8>) -> Result<bool, AllocError>
         ensures still { OnOk result (IsStill T.turn T.stands self.old self.new) }
         ensures row { IfOk result (λ is_said. is_said ≡ true → AddsCut T.turn T.stands T.states self.old rows.old.items rows.new.items) }
+        ensures said { (by : T.By) (before : List (List ℕ)) → IsBehind T.turn T.stands self.old by before →
+            IfOk result (λ is_said. is_said ≡ T.can_say (taker_of self.old) by before) }
         ensures longest { longest_of self.new ≡ longest_of self.old }
     {
         add_front(self.numbering.count(), self.numbering.sum(), rows)?;

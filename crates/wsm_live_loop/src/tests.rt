@@ -61,7 +61,7 @@ struct Same {
 }
 
 impl LineTaker for Same {
-    ghost use Rattle.std.specs.Prelude.{ℕ};
+    ghost use Rattle.std.specs.Prelude.{ℕ, true};
 
     ghost By = { ℕ };
 
@@ -72,6 +72,8 @@ impl LineTaker for Same {
     ghost written = { λ c. c.written.items };
 
     ghost states = { λ _ _ _. ⊥ };
+
+    ghost can_say = { λ _ _ _. true };
 
     fn take(&mut self, line: &[u8]) -> Result<(), AllocError> {
         self.written.clear();

@@ -1,8 +1,8 @@
 -- What takes the lines of a log, as it is seen.
-use Rattle.std.specs.Prelude.{◌≡◌, ℕ, List}
+use Rattle.std.specs.Prelude.{◌≡◌, ◌&&◌, ℕ, Bool, List}
 use Rattle.wsm_intake.specs.declared.intake.Intake.{Intake}
 use Rattle.wsm_intake.specs.GoesOn.{GoesOn}
-use Rattle.wsm_intake.specs.Saved.{Saved}
+use Rattle.wsm_intake.specs.Saved.{Saved, can_say, keeps_events}
 use Rattle.wsm_live_run.specs.declared.log_lines.LogLines.{LogLines}
 use Rattle.wsm_live_run.specs.Turns.{TakenBy}
 
@@ -15,6 +15,10 @@ pub record Stands (l : LogLines) (by : TakenBy) (before : List (List ℕ)) : Typ
 -- a text says what these lines come to
 abbrev pub SavedBy : List ℕ → TakenBy → List (List ℕ) → Type 0
 SavedBy text by before = Saved by.source by.clocks by.program before text
+
+-- it can be said what they come to, and the events that are needed are kept
+abbrev pub can_say_of : LogLines → TakenBy → List (List ℕ) → Bool
+can_say_of l by before = can_say by.source by.clocks by.program before && keeps_events l.intake
 
 abbrev pub bytes_of : LogLines → List ℕ
 bytes_of l = l.intake.told.lines.items

@@ -77,7 +77,7 @@ impl KeyedLogLines {
 impl LineTaker for KeyedLogLines {
     ghost use Rattle.wsm_keyed_intake.specs.KeyedLog.{KeyedLog};
     ghost use Rattle.wsm_live_run.specs.KeyedTurns.{keyed_turn_of};
-    ghost use Rattle.wsm_live_run.specs.KeyedSeen.{KeyedSavedBy, KeyedStands, keyed_bytes_of};
+    ghost use Rattle.wsm_live_run.specs.KeyedSeen.{KeyedSavedBy, KeyedStands, keyed_bytes_of, keyed_can_say};
 
     ghost By = { KeyedLog };
 
@@ -88,6 +88,8 @@ impl LineTaker for KeyedLogLines {
     ghost written = { keyed_bytes_of };
 
     ghost states = { KeyedSavedBy };
+
+    ghost can_say = { keyed_can_say };
 
     fn take(&mut self, line: &[u8]) -> Result<(), AllocError> {
         self.intake.take(line)

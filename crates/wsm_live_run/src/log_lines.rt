@@ -58,7 +58,7 @@ impl LogLines {
 
 impl LineTaker for LogLines {
     ghost use Rattle.wsm_live_run.specs.Turns.{TakenBy, turn_of};
-    ghost use Rattle.wsm_live_run.specs.Seen.{SavedBy, Stands, bytes_of};
+    ghost use Rattle.wsm_live_run.specs.Seen.{SavedBy, Stands, bytes_of, can_say_of};
 
     ghost By = { TakenBy };
 
@@ -69,6 +69,8 @@ impl LineTaker for LogLines {
     ghost written = { bytes_of };
 
     ghost states = { SavedBy };
+
+    ghost can_say = { can_say_of };
 
     fn take(&mut self, line: &[u8]) -> Result<(), AllocError> {
         self.intake.take(line)

@@ -109,7 +109,7 @@ struct Counted {
 }
 
 impl LineTaker for Counted {
-    ghost use Rattle.std.specs.Prelude.{ℕ};
+    ghost use Rattle.std.specs.Prelude.{ℕ, true};
 
     ghost By = { ℕ };
 
@@ -120,6 +120,8 @@ impl LineTaker for Counted {
     ghost written = { λ c. c.written.items };
 
     ghost states = { λ _ _ _. ⊥ };
+
+    ghost can_say = { λ _ _ _. true };
 
     fn take(&mut self, line: &[u8]) -> Result<(), AllocError> {
         self.lines = if self.lines < 9 { self.lines + 1 } else { 9 };

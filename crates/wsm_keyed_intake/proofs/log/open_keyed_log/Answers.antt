@@ -12,4 +12,4 @@ returns-in_err-parts-clause-unrun c =
 pub returns-in-Ok-clause-goes_on : goal.returns-in-Ok-clause-goes_on
 returns-in-Ok-clause-goes_on c =
     subst (λ (p : Program). GoesOn (record { program = p; source = c.args.source; clocks = c.args.clocks; names = c.args.names; most = c.args.most }) c.in-Ok.intake [])
-    c.in_ok-parts.ensures.program c.in-Ok.ensures
+    c.in_ok-parts.ensures.program c.in-Ok.ensures.goes_on

@@ -1,10 +1,11 @@
-use Rattle.std.proofs.Common.{rules, ◌≡◌, ◌∙◌, ◌++◌, ℕ, List, [], true, drop, length, take, refl, sym, ap, subst, arith}
-use Rattle.std.specs.Prelude.{IfOk, IsTrue, OnOk}
+use Rattle.std.proofs.Common.{rules, ◌≡◌, ◌∙◌, ◌++◌, ℕ, Bool, List, [], true, false, nat_lt, drop, length, take, refl, sym, ap, subst, arith}
+use Rattle.std.specs.Prelude.{◌&&◌, unsigned_abs, IfOk, IsTrue, OnOk}
 use Rattle.std.proofs.lemmas.Result.{IfOk-weaker, on_ok_weaker}
 use Rattle.std.proofs.Transfers.{drop-appended}
 use Rattle.wsm_record.specs.Event.{Event}
 use Rattle.wsm_turns.specs.Clocks.{named_in}
-use Rattle.wsm_head.specs.StandsFor.{program_with}
+use Rattle.wsm_head.specs.StandsFor.{program_with, taken}
+use Rattle.wsm_part_programs.specs.Names.{of_names}
 use Rattle.wsm_saved.specs.Events.{event_text}
 use Rattle.wsm_program.specs.Program.{is_program}
 use Rattle.wsm_saved.specs.Lists.{BytesFit, ListFits, bytes_text, list_text}
@@ -15,15 +16,28 @@ use Rattle.wsm_keyed_told.specs.Tells.{Serves}
 use Rattle.wsm_keyed_told.proofs.ByNames.{if_ok_all, on_ok_all}
 use Rattle.wsm_part_engines.specs.Fits as parts
 use Rattle.wsm_intake.specs.Intake as intake
+use Rattle.wsm_intake.specs.Resuming.{left_behind}
 use Rattle.wsm_intake.specs.Saved.{needed_in_order}
 use Rattle.wsm_intake.specs.Staying.{IsListed}
 use Rattle.wsm_intake.proofs.Behind.{behind, grown_through}
-use Rattle.wsm_intake.proofs.SavedFacts.{known_itself, named_of, names_in}
-use Rattle.wsm_keyed_intake.specs.KeyedLog.{declared_by, names_of}
-use Rattle.wsm_keyed_intake.specs.Saved.{query_with}
+use Rattle.wsm_intake.proofs.SavedFacts.{known_itself, left_alike, named_of, names_in, said_each, some_and_some}
+use Rattle.wsm_keyed_intake.specs.KeyedLog.{declared_by, kept_by, names_of}
+use Rattle.wsm_keyed_intake.specs.Saved.{keeps_events, query_with}
 use Rattle.wsm_keyed_intake.proofs.GoingOn.{named_by, served_on}
 use Rattle.wsm_keyed_intake.proofs.SavedFacts.{all_text, is_saved}
 use Rattle.wsm_keyed_intake.proofs.intake.KeyedIntake.save.Goals as goal
+use Rattle.wsm_keyed_intake.proofs.intake.KeyedIntake.save.Goals.{then-self-eq0-via-then-self-eq0, then-self-eq0-via-else-self-eq0+then-left-eq0}
+
+-- where no line came, or no RECORDS are left, it can't be said what lines come to
+none_came : (lines came some : ℕ) (k : Bool) → came ≡ lines → came ≡ 0 → false ≡ ((nat_lt 0 lines && nat_lt 0 some) && k)
+none_came lines came some k is none = ap (λ (n : ℕ). (nat_lt 0 n && nat_lt 0 some) && k) (sym none ∙ is)
+
+and_none : (b k : Bool) → false ≡ ((b && false) && k)
+and_none true k = refl
+and_none false k = refl
+
+none_left : (lines left some : ℕ) (k : Bool) → left ≡ some → left ≡ 0 → false ≡ ((nat_lt 0 lines && nat_lt 0 some) && k)
+none_left lines left some k is none = and_none (nat_lt 0 lines) k ∙ ap (λ (n : ℕ). (nat_lt 0 lines && nat_lt 0 n) && k) (sym none ∙ is)
 
 pub returns-clause-goes_on : goal.returns-clause-goes_on
 returns-clause-goes_on c = λ g before on.
@@ -99,6 +113,37 @@ returns-clause-saved c = λ g before on.
             (subst (λ k. DoublesFit k.entries) c.doubles.ensures c.in_ok-save_doubles.ensures.fits) (listed later is).fits (there later);
       },
     )) (if_ok_all c.save_needed.result (λ yes later. yes ≡ true → IsListed (query_with g on.records (names_of g (later ++ before))) (on.by later).other.fed t7 last) each)
+
+pub returns-then-self-eq0-clause-when : goal.returns-then-self-eq0-clause-when
+returns-then-self-eq0-clause-when c = λ g before on.
+    let old = c.args.self.now in
+    let lesser = program_with on.records g.program in
+    let by = on.by [] in
+    let all = names_of g before in
+    let past = (kept_by g all before).fed in
+    let named = named_by lesser old.told by.other.fed by.holds.told all by.holds.grows in
+    let lines = by.taken ∙ said_each g.source g.clocks (declared_by g all) before in
+    let left = c.records_left-left.ensures.left lesser by.other.fed by.holds.told all named
+    ∙ left_alike (unsigned_abs on.records) (unsigned_abs g.program.header.clock.records) (taken (of_names g.program all) past) (taken (query_with g on.records all) by.other.fed) by.stands.stands.left in
+    let some = left_behind (of_names g.program all) past in
+    elim c.then-self-eq0.branch [
+      | then-self-eq0-via-then-self-eq0 w ↦ none_came (length before) old.taken some (keeps_events old) lines (omega (arith, w.if-self-eq0.true))
+      | then-self-eq0-via-else-self-eq0+then-left-eq0 w ↦ none_left (length before) c.records_left-left.result some (keeps_events old) left (omega (arith, w.if-left-eq0.true))
+    ]
+
+pub returns-clause-when : goal.returns-clause-when
+returns-clause-when c = λ g before on.
+    let old = c.args.self.now in
+    let lesser = program_with on.records g.program in
+    let by = on.by [] in
+    let all = names_of g before in
+    let past = (kept_by g all before).fed in
+    let named = named_by lesser old.told by.other.fed by.holds.told all by.holds.grows in
+    let lines = by.taken ∙ said_each g.source g.clocks (declared_by g all) before in
+    let left = c.records_left-left.ensures.left lesser by.other.fed by.holds.told all named
+    ∙ left_alike (unsigned_abs on.records) (unsigned_abs g.program.header.clock.records) (taken (of_names g.program all) past) (taken (query_with g on.records all) by.other.fed) by.stands.stands.left in
+    let can = some_and_some (length before) old.taken c.records_left-left.result (left_behind (of_names g.program all) past) lines left (omega arith) (omega arith) in
+    IfOk-weaker c.save_needed.result _ _ (λ is_saved kept. kept ∙ sym (ap (λ (b : Bool). b && keeps_events old) can)) c.save_needed.ensures.is_saved
 
 pub returns-clause-grows : goal.returns-clause-grows
 returns-clause-grows c =

@@ -1,6 +1,5 @@
 use Rattle.std.proofs.Common.{◌≡◌, ◌∙◌, List, ℕ, nat_eq, length, subst, sym, true}
 use Rattle.wsm_live.specs.CutSeen.{cut_seen}
-use Rattle.wsm_live.specs.Head.{is_readable}
 use Rattle.wsm_live.specs.Live.{IsBehind}
 use Rattle.wsm_live.proofs.HeadLemmas.{no_bytes, readable_cut, readable_none, some_then, stands_cut, stands_none}
 use Rattle.wsm_live.proofs.run.LiveRun.resume.Goals as goal

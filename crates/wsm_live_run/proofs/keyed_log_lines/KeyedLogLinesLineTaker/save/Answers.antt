@@ -9,3 +9,6 @@ returns-clause-stands c = λ g before was.
 pub returns-clause-states : goal.returns-clause-states
 returns-clause-states c = λ g before was.
     IfOk-weaker c.save.result _ _ (λ is_saved says yes. behind_text g before c.args.text.now.items c.save.new.text.items was.turns (says yes)) (c.save.ensures.saved g before was.goes_on)
+
+pub returns-clause-said : goal.returns-clause-said
+returns-clause-said c = λ g before was. c.save.ensures.when g before was.goes_on

@@ -9,3 +9,6 @@ returns-clause-stands c = λ by before was.
 pub returns-clause-states : goal.returns-clause-states
 returns-clause-states c = λ by before was.
     IfOk-weaker c.save.result _ _ (λ is_saved says yes. behind_text by before c.args.text.now.items c.save.new.text.items (says yes)) (c.save.ensures.saved by.source by.clocks by.program before was.goes_on)
+
+pub returns-clause-said : goal.returns-clause-said
+returns-clause-said c = λ by before was. c.save.ensures.when by.source by.clocks by.program before was.goes_on
