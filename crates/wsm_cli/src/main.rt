@@ -12,7 +12,7 @@ mod parted;
 mod programs;
 
 use crate::jobs::done;
-use std::alloc::Global;
+use std::alloc::{AllocError, Global};
 use std::env;
 use std::fs::File;
 use std::io::{self, ErrorKind, IsTerminal};
@@ -58,11 +58,17 @@ fn act<R: Files<File = File> + AllocGlobal + Input + Print + Eprint + Clock + Cl
 
 // The job that the words ask for.
 fn job_of(alloc: Global, words: &[String]) -> Result<Job, WordsRefusal> {
-    let words = words
-        .iter()
-        .map(|word| word.as_str())
-        .collect::<Vec<&str>>(alloc)?;
-    command_of(alloc, &words)
+    let texts = texts_of(alloc, words)?;
+    command_of(alloc, &texts)
+}
+
+// The texts of the words.
+fn texts_of(alloc: Global, words: &[String]) -> Result<Vec<&str>, AllocError> {
+    let mut texts = Vec::with_capacity(alloc, words.len())?;
+    for word in words {
+        texts.push(word.as_str())?;
+    }
+    Ok(texts)
 }
 
 // Does the job, and gives the status.

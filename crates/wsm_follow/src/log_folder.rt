@@ -7,7 +7,7 @@ use crate::folder::{Ended, Folder, FolderFault};
 use crate::names::ending_of;
 use crate::order::Listed;
 use std::alloc::{AllocError, Global};
-use std::fs::{self, File, Metadata};
+use std::fs::{self, DirEntry, File, Metadata};
 use std::io::{self, ErrorKind};
 use std::os::unix::fs::{FileExt, MetadataExt};
 use std::rt::Files;
@@ -80,6 +80,53 @@ fn is_open(opened: &Option<Opened>, id: FileId) -> bool {
     }
 }
 
+// Which file has a path, if one has.
+fn file_at<R: Files>(rt: &R, path: &str) -> Result<Option<FileId>, FolderFault> {
+    match unless(ErrorKind::NotFound, fs::symlink_metadata(rt, path))? {
+        Some(metadata) => Ok(Some(id_of(&metadata))),
+        None => Ok(None),
+    }
+}
+
+// Opens the file of a path, if it is there, and this one.
+fn opened_at<R: Files<File = File>>(
+    rt: &R,
+    path: &str,
+    id: FileId,
+) -> Result<Option<Opened>, FolderFault> {
+    match unless(ErrorKind::NotFound, File::open(rt, path))? {
+        Some(file) => opened_as(file, id),
+        None => Ok(None),
+    }
+}
+
+// A file that is open, if it is this one.
+fn opened_as(file: File, id: FileId) -> Result<Option<Opened>, FolderFault> {
+    if !is_same(id_of(&file.metadata()?), id) {
+        return Ok(None);
+    }
+    Ok(Some(Opened {
+        id,
+        file,
+        is_named: false,
+        still: None,
+    }))
+}
+
+// The file of a log by a name and by what is known of it, if it is a plain one.
+fn listed_by(
+    alloc: Global,
+    log: &[u8],
+    name: &str,
+    metadata: &Metadata,
+) -> Result<Option<Listed>, AllocError> {
+    if !metadata.is_file() {
+        return Ok(None);
+    }
+    let (size, changed) = (metadata.len(), changed_of(metadata));
+    Listed::new(alloc, log, name.as_bytes(), id_of(metadata), size, changed)
+}
+
 // The path of a name in a folder.
 fn path_of(alloc: Global, folder: &str, name: &str) -> Result<String, AllocError> {
     let mut path = String::from_str(alloc, folder)?;
@@ -118,61 +165,56 @@ impl<'r, R: Files<File = File> + AllocGlobal + Clock + Clone + Drop> LogFolder<'
             return Ok(None);
         }
         let path = path_of(self.rt.alloc(), self.path.as_str(), name)?;
-        let Some(metadata) = unless(
+        match unless(
             ErrorKind::NotFound,
             fs::symlink_metadata(self.rt, path.as_str()),
-        )?
-        else {
-            return Ok(None);
-        };
-        if !metadata.is_file() {
-            return Ok(None);
+        )? {
+            Some(metadata) => Ok(listed_by(self.rt.alloc(), log, name, &metadata)?),
+            None => Ok(None),
         }
-        let (size, changed) = (metadata.len(), changed_of(&metadata));
-        Ok(Listed::new(
-            self.rt.alloc(),
-            log,
-            name.as_bytes(),
-            id_of(&metadata),
-            size,
-            changed,
-        )?)
+    }
+
+    // Adds the file of an entry of the folder to others, if it is one of the log.
+    fn add_listed(
+        &self,
+        log: &[u8],
+        entry: io::Result<DirEntry<R>>,
+        files: &mut Vec<Listed>,
+    ) -> Result<(), FolderFault> {
+        let Some(entry) = unless(ErrorKind::InvalidFilename, entry)? else {
+            return Ok(());
+        };
+        if let Some(listed) = self.listed(log, entry.file_name())? {
+            files.push(listed)?;
+        }
+        Ok(())
     }
 
     // Opens the file of a name, if it is this one.
     fn opened(&self, name: &str, id: FileId) -> Result<Option<Opened>, FolderFault> {
         let path = path_of(self.rt.alloc(), self.path.as_str(), name)?;
-        let Some(metadata) = unless(
-            ErrorKind::NotFound,
-            fs::symlink_metadata(self.rt, path.as_str()),
-        )?
-        else {
-            return Ok(None);
-        };
-        if !is_same(id_of(&metadata), id) {
-            return Ok(None);
+        match file_at(self.rt, path.as_str())? {
+            Some(file) if is_same(file, id) => opened_at(self.rt, path.as_str(), id),
+            _ => Ok(None),
         }
-        let Some(file) = unless(ErrorKind::NotFound, File::open(self.rt, path.as_str()))? else {
-            return Ok(None);
-        };
-        if !is_same(id_of(&file.metadata()?), id) {
-            return Ok(None);
+    }
+
+    // Opens the file of an entry of the folder, if it is this one.
+    fn opened_of(
+        &self,
+        entry: io::Result<DirEntry<R>>,
+        id: FileId,
+    ) -> Result<Option<Opened>, FolderFault> {
+        match unless(ErrorKind::InvalidFilename, entry)? {
+            Some(entry) => self.opened(entry.file_name(), id),
+            None => Ok(None),
         }
-        Ok(Some(Opened {
-            id,
-            file,
-            is_named: false,
-            still: None,
-        }))
     }
 
     // Looks for a file in the folder, and opens it.
     fn found(&self, id: FileId) -> Result<Option<Opened>, FolderFault> {
         for entry in fs::read_dir(self.rt, self.path.as_str())? {
-            let Some(entry) = unless(ErrorKind::InvalidFilename, entry)? else {
-                continue;
-            };
-            if let Some(opened) = self.opened(entry.file_name(), id)? {
+            if let Some(opened) = self.opened_of(entry, id)? {
                 return Ok(Some(opened));
             }
         }
@@ -218,6 +260,43 @@ fn is_still<R: Clock>(
     }
 }
 
+// What a file that has another name than the log came to, if it has ended.
+fn ended_of<R: Clock>(
+    rt: &R,
+    opened: &mut Opened,
+    patience: Duration,
+) -> Result<Option<Ended>, FolderFault> {
+    let metadata = opened.file.metadata()?;
+    let ended = Ended {
+        size: metadata.len(),
+        changed: changed_of(&metadata),
+    };
+    if is_still(rt, opened, ended.size, patience)? {
+        Ok(Some(ended))
+    } else {
+        Ok(None)
+    }
+}
+
+// Has the bytes of a file reach the disk, and its name in the folder.
+fn sync_opened<R: Files<File = File>>(
+    rt: &R,
+    folder: &str,
+    opened: &mut Opened,
+) -> Result<(), FolderFault> {
+    opened.file.sync_data()?;
+    if !opened.is_named {
+        sync_names(rt, folder)?;
+        opened.is_named = true;
+    }
+    Ok(())
+}
+
+// Has the names of a folder reach the disk.
+fn sync_names<R: Files<File = File>>(rt: &R, folder: &str) -> io::Result<()> {
+    File::open(rt, folder)?.sync_all()
+}
+
 impl<R: Files<File = File> + AllocGlobal + Clock + Clone + Drop> Folder for LogFolder<'_, R> {
     ghost logs = { λ _. None };
 
@@ -226,12 +305,7 @@ impl<R: Files<File = File> + AllocGlobal + Clock + Clone + Drop> Folder for LogF
     fn list(&mut self, log: &[u8]) -> Result<Vec<Listed>, FolderFault> {
         let mut files = Vec::new(self.rt.alloc());
         for entry in fs::read_dir(self.rt, self.path.as_str())? {
-            let Some(entry) = unless(ErrorKind::InvalidFilename, entry)? else {
-                continue;
-            };
-            if let Some(listed) = self.listed(log, entry.file_name())? {
-                files.push(listed)?;
-            }
+            self.add_listed(log, entry, &mut files)?;
         }
         Ok(files)
     }
@@ -263,28 +337,13 @@ impl<R: Files<File = File> + AllocGlobal + Clock + Clone + Drop> Folder for LogF
     }
 
     fn ended(&mut self, file: FileId) -> Result<Option<Ended>, FolderFault> {
-        let Some(log) = unless(
-            ErrorKind::NotFound,
-            fs::symlink_metadata(self.rt, self.log.as_str()),
-        )?
-        else {
-            return Ok(None);
-        };
-        if is_same(id_of(&log), file) || !is_open(&self.own, file) {
-            return Ok(None);
+        match file_at(self.rt, self.log.as_str())? {
+            Some(log) if !is_same(log, file) && is_open(&self.own, file) => {}
+            _ => return Ok(None),
         }
-        let Some(opened) = &mut self.own else {
-            return Ok(None);
-        };
-        let metadata = opened.file.metadata()?;
-        let ended = Ended {
-            size: metadata.len(),
-            changed: changed_of(&metadata),
-        };
-        if is_still(self.rt, opened, ended.size, self.patience)? {
-            Ok(Some(ended))
-        } else {
-            Ok(None)
+        match &mut self.own {
+            Some(opened) => ended_of(self.rt, opened, self.patience),
+            None => Ok(None),
         }
     }
 
@@ -293,11 +352,7 @@ impl<R: Files<File = File> + AllocGlobal + Clock + Clone + Drop> Folder for LogF
         let Some(opened) = &mut self.own else {
             return Err(FolderFault::Failed);
         };
-        opened.file.sync_data()?;
-        if !opened.is_named {
-            File::open(self.rt, self.path.as_str())?.sync_all()?;
-            opened.is_named = true;
-        }
+        sync_opened(self.rt, self.path.as_str(), opened)?;
         self.synced = Some((file, bytes));
         Ok(())
     }

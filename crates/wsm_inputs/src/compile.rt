@@ -8,9 +8,8 @@ ghost use Rattle.wsm_inputs.specs.Ends.{hides_memory};
 ghost use Rattle.wsm_inputs.specs.Judged.{text_judged, EndsBy};
 
 use crate::end::End;
-use crate::inputs::program_of_text;
+use crate::inputs::{program_of_text, spelled};
 use std::alloc::Global;
-use wsm_bytecode::encode;
 
 /// The bytes of the program of a query's text. It isn't verified.
 ///
@@ -24,5 +23,5 @@ pub fn compile_text(alloc: Global, text: &[u8]) -> Result<Vec<u8>, End>
     ensures memory_apart { IfErr result (λ end. hides_memory end ≡ false) }
 {
     let program = program_of_text(alloc, text)?;
-    Ok(encode(alloc, &program)?)
+    Ok(spelled(alloc, program)?)
 }

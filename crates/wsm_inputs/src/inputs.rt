@@ -3,6 +3,7 @@
 ghost use Rattle.std.specs.Prelude.{◌≡◌, ◌⊎◌, false, Ok, Some, IfOk, IfErr};
 ghost use Rattle.wsm_query.specs.Seen.{seen};
 ghost use Rattle.wsm_query.specs.Tree.{Query as QueryTree};
+ghost use Rattle.wsm_bytecode.specs.Spelling.{spelling};
 ghost use Rattle.wsm_check.specs.Checks.{IsChecked, refusal};
 ghost use Rattle.wsm_check.specs.Parts.{parts_of};
 ghost use Rattle.wsm_check.specs.Seen.{seen_parts};
@@ -15,8 +16,8 @@ ghost use Rattle.wsm_inputs.specs.Judged.{text_judged, bytes_judged, compiled, E
 
 use crate::end::End;
 use crate::input::Input;
-use std::alloc::Global;
-use wsm_bytecode::{Program, decode};
+use std::alloc::{AllocError, Global};
+use wsm_bytecode::{Program, decode, encode};
 use wsm_check::{CheckRefusal, Checked, check};
 use wsm_compiler::{compile, compile_costed};
 use wsm_query::{Query, parse};
@@ -104,6 +105,13 @@ pub(crate) fn program_of_bytes(alloc: Global, bytes: &[u8]) -> Result<Program, E
     ensures memory_apart { IfErr result (λ end. hides_memory end ≡ false) }
 {
     Ok(decode(alloc, bytes)?)
+}
+
+/// The bytes that spell a program, which is let go.
+pub(crate) fn spelled(alloc: Global, program: Program) -> Result<Vec<u8>, AllocError>
+    ensures { IfOk result (λ bytes. bytes.items ≡ spelling program) }
+{
+    encode(alloc, &program)
 }
 
 // The program that bytes spell, with what it needs.

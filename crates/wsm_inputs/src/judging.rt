@@ -96,7 +96,7 @@ fn add_verdict(alloc: Global, costed: Costed, text: &mut String) -> Result<bool,
 {
     match verified(alloc, costed) {
         Ok(verified) => {
-            add_accepted(&verified, text)?;
+            add_accepted(verified, text)?;
             Ok(true)
         }
         Err(End::Rejected(rejection)) => {
@@ -107,8 +107,15 @@ fn add_verdict(alloc: Global, costed: Costed, text: &mut String) -> Result<bool,
     }
 }
 
-// Adds the line of an accepted program.
-fn add_accepted(verified: &Verified, text: &mut String) -> Result<(), AllocError>
+// Adds the line of an accepted program, which is let go.
+fn add_accepted(verified: Verified, text: &mut String) -> Result<(), AllocError>
+    ensures { OnOk result (string_bytes text.new ≡ string_bytes text.old ++ verdict (judge_of verified)) }
+{
+    add_costs(&verified, text)
+}
+
+// Adds what an accepted program costs.
+fn add_costs(verified: &Verified, text: &mut String) -> Result<(), AllocError>
     ensures { OnOk result (string_bytes text.new ≡ string_bytes text.old ++ verdict (judge_of verified.now)) }
 {
     let _accepted = verified.program();

@@ -7,9 +7,8 @@ ghost use Rattle.wsm_inputs.specs.Ends.{hides_memory};
 ghost use Rattle.wsm_inputs.specs.Judged.{bytes_judged, EndsBy};
 
 use crate::end::End;
-use crate::inputs::program_of_bytes;
+use crate::inputs::{program_of_bytes, spelled};
 use std::alloc::Global;
-use wsm_bytecode::encode;
 
 /// The bytes of the same program in the version that is written. It isn't verified: the program is
 /// what it was, and so are its acceptance, its costs and its answers.
@@ -23,5 +22,5 @@ pub fn migrate(alloc: Global, bytes: &[u8]) -> Result<Vec<u8>, End>
     ensures memory_apart { IfErr result (λ end. hides_memory end ≡ false) }
 {
     let program = program_of_bytes(alloc, bytes)?;
-    Ok(encode(alloc, &program)?)
+    Ok(spelled(alloc, program)?)
 }

@@ -5,12 +5,22 @@ use std::io::{self, Write};
 use wsm_row_counts::Lines;
 
 /// A writer whose lines are counted, where that is asked for.
-#[derive(Drop)]
 pub struct Counting<W> {
     writer: W,
     lines: Option<Lines>,
     // Whether there was no memory to count them.
     has_failed: bool,
+}
+
+// It is let go in one call, however many parts it has.
+impl<W: Drop> Drop for Counting<W> {
+    fn drop(self) {
+        let Counting {
+            writer: _,
+            lines: _,
+            has_failed: _,
+        } = self;
+    }
 }
 
 impl<W> Counting<W> {

@@ -13,11 +13,21 @@ use wsm_row_watermarks::Totals as RowTotals;
 
 /// What a run came to: the numbers of its last line, what of a log is counted beside them, and what is counted of the lines that
 /// were written, where that was asked for.
-#[derive(Drop)]
 pub struct Ran {
     pub totals: Totals,
     pub counts: Option<LogCounts>,
     pub lines: Option<Lines>,
+}
+
+// It is let go in one call, however many parts it has.
+impl Drop for Ran {
+    fn drop(self) {
+        let Ran {
+            totals: _,
+            counts: _,
+            lines: _,
+        } = self;
+    }
 }
 
 /// Writes what a run came to to a file, if one is named.

@@ -3,7 +3,7 @@
 use crate::fault::{FileCall, FolderFault};
 use crate::journal_files::{JournalFiles, names_synced};
 use crate::taken::{Taken, Told, is_sinks};
-use std::alloc::AllocError;
+use std::alloc::{AllocError, Global};
 use std::fs::{self, DirBuilder, File, OpenOptions, TryLockError};
 use std::io::{self, ErrorKind, Read};
 use std::os::unix::fs::{DirBuilderExt, OpenOptionsExt};
@@ -98,16 +98,19 @@ impl<'r, R: Files<File = File> + AllocGlobal + Clone + Drop> LiveFolder<'r, R> {
     pub fn taken(&self) -> Result<Vec<Taken>, FolderFault> {
         let mut all = Vec::new(self.rt.alloc());
         for file in self.sinks()? {
-            let path = self.path_of(file.as_str())?;
-            match first_bytes(self.rt, path.as_str()) {
-                Ok(bytes) => all.push(Taken {
-                    file,
-                    told: Told::of(&bytes),
-                })?,
-                Err(error) => return Err(FolderFault::of(TAKEN, FileCall::Read, &error)),
-            }
+            let told = self.told_by(file.as_str())?;
+            all.push(Taken { file, told })?;
         }
         Ok(all)
+    }
+
+    // What a sink told by a file.
+    fn told_by(&self, file: &str) -> Result<Option<Told>, FolderFault> {
+        let path = self.path_of(file)?;
+        match first_bytes(self.rt, path.as_str()) {
+            Ok(bytes) => Ok(Told::of(&bytes)),
+            Err(error) => Err(FolderFault::of(TAKEN, FileCall::Read, &error)),
+        }
     }
 
     // The names of the files that sinks tell by.
@@ -119,16 +122,21 @@ impl<'r, R: Files<File = File> + AllocGlobal + Clone + Drop> LiveFolder<'r, R> {
         };
         for entry in entries {
             match entry {
-                Ok(entry) if is_sinks(entry.file_name()) => {
-                    names.push(String::from_str(self.rt.alloc(), entry.file_name())?)?;
-                }
-                Ok(_) => {}
+                Ok(entry) => add_sink(self.rt.alloc(), entry.file_name(), &mut names)?,
                 Err(error) if error.kind() == ErrorKind::InvalidFilename => {}
                 Err(error) => return Err(FolderFault::of(FOLDER, FileCall::Read, &error)),
             }
         }
         Ok(names)
     }
+}
+
+// Adds the name of a file, if a sink tells by it.
+fn add_sink(alloc: Global, name: &str, names: &mut Vec<String>) -> Result<(), AllocError> {
+    if is_sinks(name) {
+        names.push(String::from_str(alloc, name)?)?;
+    }
+    Ok(())
 }
 
 /// Puts a text in the place of a file's: who reads it finds the old one whole, or the new one.

@@ -79,7 +79,7 @@ impl<'j> Going<'j> {
         let settings = Settings {
             dir: self.job.dir.as_str(),
             log: self.over.log.as_str(),
-            health: self.job.health.as_ref().map(|file| file.as_str()),
+            health: text_of(&self.job.health),
             patience: Duration::from_secs(self.patience),
             cut: self.cut,
             goes_on: self.goes_on,
@@ -92,6 +92,14 @@ impl<'j> Going<'j> {
             follow(rt, &settings, run)?;
         }
         Ok(true)
+    }
+}
+
+// The text of a word, if it is given.
+fn text_of(word: &Option<String>) -> Option<&str> {
+    match word {
+        Some(word) => Some(word.as_str()),
+        None => None,
     }
 }
 

@@ -1,7 +1,5 @@
 //! Live runs, by the words of the program.
 
-ghost use Rattle.wsm_turns.specs.Clocks.{AreClocks};
-
 use crate::live_settings::{Going, Over};
 use std::alloc::{AllocError, Global};
 use std::fs::File;
@@ -18,13 +16,12 @@ use wsm_live_loop::{LiveStop, position_of};
 use wsm_live_run::{keyed_live_run, live_run};
 use wsm_rules::Verified;
 use wsm_source_file::{Bound, SourceFile, file_of_names, most_of, names_in};
-use wsm_words::LiveJob;
+use wsm_words::{LiveJob, Named};
 
 // What a run is made of, before anything is touched.
 struct Ready {
     verified: Verified,
     bound: Bound,
-    sum: u32,
 }
 
 // It is let go in one call, however many parts it has.
@@ -33,7 +30,23 @@ impl Drop for Ready {
         let Ready {
             verified: _,
             bound: _,
-            sum: _,
+        } = self;
+    }
+}
+
+// The names of a file with its text, and how many there may be.
+struct Names {
+    names: KeyNames,
+    text: Vec<u8>,
+    most: u32,
+}
+
+impl Drop for Names {
+    fn drop(self) {
+        let Names {
+            names: _,
+            text: _,
+            most: _,
         } = self;
     }
 }
@@ -69,15 +82,20 @@ fn live_declared<
     let bytes = read(rt, over.query)?;
     let input = input_of(job.program, &bytes);
     let verified = accepted_of(rt.alloc(), input)?;
-    let bound = source.bound(rt, &verified)?;
+    let ready = Ready::of(rt, source, verified)?;
+    let sum = sum_of(rt, source, input, over)?;
+    ready.run(rt, going, sum)
+}
+
+// The sum of what is run over a source's lines, and of all that says how these are read.
+fn sum_of<R: Files + AllocGlobal>(
+    rt: &R,
+    source: &SourceFile<'_>,
+    input: Judged<'_>,
+    over: Over<'_>,
+) -> Result<u32, Stop> {
     let told = source.told(rt)?;
-    let sum = live_sum(rt.alloc(), input, &told, over.is_fed())?;
-    let ready = Ready {
-        verified,
-        bound,
-        sum,
-    };
-    ready.run(rt, going)
+    Ok(live_sum(rt.alloc(), input, &told, over.is_fed())?)
 }
 
 // Runs a query without a KEYS clause by the names of a file.
@@ -94,48 +112,90 @@ fn live_named<R: Files<File = File> + AllocGlobal + Input + Print + Eprint + Clo
     }
     let most = most_of(&job.keys)?;
     let query = read(rt, over.query)?;
-    let text = read(rt, names)?;
-    let names = names_in(rt.alloc(), &text, most)?;
+    let names = Names::of(rt, names, most)?;
     let verified = checked_by_places(rt.alloc(), &query)?;
-    let program = encode(rt.alloc(), verified.program())?;
-    let bound = source.bound(rt, &verified)?;
-    let mut told = source.told(rt)?;
-    add_keys(rt.alloc(), &text, most, &mut told)?;
-    let sum = live_sum(rt.alloc(), Judged::Program(&program), &told, over.is_fed())?;
-    let ready = Ready {
-        verified,
-        bound,
-        sum,
-    };
-    ready.run_named(rt, going, names, most)
+    let ready = Ready::of(rt, source, verified)?;
+    let sum = sum_of_named(rt, source, &ready.verified, over, &names)?;
+    names.run(rt, ready, going, sum)
 }
 
-// Adds to the bytes of a source what says which keys there are: the names of a file, and how many there may be.
-fn add_keys(
-    alloc: Global,
-    names: &[u8],
-    most: u32,
-    source: &mut Vec<u8>,
-) -> Result<(), AllocError> {
-    let front = format!(in alloc; "keys,{most}\n")?;
-    source.extend_from_slice(front.as_bytes())?;
-    source.extend_from_slice(names)
+// The sum of what is run by names over a source's lines, of all that says how these are read, and of which keys there are.
+fn sum_of_named<R: Files + AllocGlobal>(
+    rt: &R,
+    source: &SourceFile<'_>,
+    verified: &Verified,
+    over: Over<'_>,
+    names: &Names,
+) -> Result<u32, Stop> {
+    let program = encode(rt.alloc(), verified.program())?;
+    let mut told = source.told(rt)?;
+    names.add_to(rt.alloc(), &mut told)?;
+    Ok(live_sum(rt.alloc(), Judged::Program(&program), &told, over.is_fed())?)
+}
+
+impl Names {
+    ghost use Rattle.wsm_turns.specs.Clocks.{AreClocks};
+
+    // The names of a file, of which there may be so many.
+    fn of<R: Files + AllocGlobal>(rt: &R, file: &String, most: u32) -> Result<Names, Stop> {
+        let text = read(rt, file)?;
+        let names = names_in(rt.alloc(), &text, most)?;
+        Ok(Names { names, text, most })
+    }
+
+    // Adds to the bytes of a source what says which keys there are: the names of the file, and how many there may be.
+    fn add_to(&self, alloc: Global, source: &mut Vec<u8>) -> Result<(), AllocError> {
+        let most = self.most;
+        let front = format!(in alloc; "keys,{most}\n")?;
+        source.extend_from_slice(front.as_bytes())?;
+        source.extend_from_slice(&self.text)
+    }
+
+    // Follows the log, or takes what comes on standard input, by the names.
+    fn run<R: Files<File = File> + AllocGlobal + Input + Print + Eprint + Clock + Clone + Drop>(
+        self,
+        rt: &R,
+        ready: Ready,
+        going: Going<'_>,
+        sum: u32,
+    ) -> Result<bool, Stop>
+        requires { AreClocks ready.bound.clocks }
+    {
+        let Names {
+            names,
+            text: _,
+            most,
+        } = self;
+        ready.run_named(rt, going, sum, names, most)
+    }
 }
 
 impl Ready {
+    ghost use Rattle.std.specs.Prelude.{IfOk};
+    ghost use Rattle.wsm_turns.specs.Clocks.{AreClocks};
+
+    // An accepted program, and how the lines of a source are read for it.
+    fn of<R: Files + AllocGlobal>(
+        rt: &R,
+        source: &SourceFile<'_>,
+        verified: Verified,
+    ) -> Result<Ready, Stop>
+        ensures { IfOk result (λ ready. AreClocks ready.bound.clocks) }
+    {
+        let bound = source.bound(rt, &verified)?;
+        Ok(Ready { verified, bound })
+    }
+
     // Follows the log, or takes what comes on standard input.
     fn run<R: Files<File = File> + AllocGlobal + Input + Print + Eprint + Clock + Clone + Drop>(
         self,
         rt: &R,
         going: Going<'_>,
+        sum: u32,
     ) -> Result<bool, Stop>
         requires { AreClocks self.bound.clocks }
     {
-        let Ready {
-            verified,
-            bound,
-            sum,
-        } = self;
+        let Ready { verified, bound } = self;
         let Bound { source, clocks } = bound;
         let longest = source.longest;
         let run = live_run(rt.alloc(), verified, source, clocks)?;
@@ -145,14 +205,10 @@ impl Ready {
     // The same by these names, of which there may be so many.
     fn run_named<
         R: Files<File = File> + AllocGlobal + Input + Print + Eprint + Clock + Clone + Drop,
-    >(self, rt: &R, going: Going<'_>, names: KeyNames, most: u32) -> Result<bool, Stop>
+    >(self, rt: &R, going: Going<'_>, sum: u32, names: KeyNames, most: u32) -> Result<bool, Stop>
         requires { AreClocks self.bound.clocks }
     {
-        let Ready {
-            verified,
-            bound,
-            sum,
-        } = self;
+        let Ready { verified, bound } = self;
         let Bound { source, clocks } = bound;
         let longest = source.longest;
         let run = keyed_live_run(rt.alloc(), verified, source, clocks, names, most)?;
@@ -170,17 +226,32 @@ fn tell_position<R: Files<File = File> + AllocGlobal + Print>(
     }
     let mut position = position_of(rt, job.dir.as_str())?;
     position.push(b'\n')?;
-    let mut out = io::writer(rt);
-    if out.write_all(&position).is_err() || out.flush().is_err() {
-        return Err(Stop::Live(LiveStop::Out));
+    match put(rt, &position) {
+        Ok(()) => Ok(true),
+        Err(_) => Err(Stop::Live(LiveStop::Out)),
     }
-    Ok(true)
+}
+
+// Writes bytes to standard output, and has them leave.
+fn put<R: Print>(rt: &R, bytes: &[u8]) -> io::Result<()> {
+    let mut out = io::writer(rt);
+    out.write_all(bytes)?;
+    out.flush()
 }
 
 // Whether the words name nothing but the folder.
 fn is_alone(job: &LiveJob) -> bool {
-    let names_run = job.from.is_some() || job.query.is_some() || job.log.is_some();
-    let tells_how = job.lost.is_some() || job.health.is_some() || job.patience.is_some();
-    let names_keys = job.keys.file.is_some() || job.keys.takes_new || job.keys.most.is_some();
-    !job.program && !names_run && !tells_how && !names_keys && job.cut.is_none()
+    !job.program && !names_run(job) && !tells_how(job) && !names_keys(&job.keys)
+}
+
+fn names_run(job: &LiveJob) -> bool {
+    job.from.is_some() || job.query.is_some() || job.log.is_some()
+}
+
+fn tells_how(job: &LiveJob) -> bool {
+    job.lost.is_some() || job.health.is_some() || job.patience.is_some() || job.cut.is_some()
+}
+
+fn names_keys(keys: &Named) -> bool {
+    keys.file.is_some() || keys.takes_new || keys.most.is_some()
 }

@@ -75,7 +75,6 @@ impl From<FolderFault> for Halt {
 }
 
 // Where a run stands, beside its journal.
-#[derive(Drop)]
 struct Following<'s, 'r, R, I> {
     rt: &'r R,
     settings: &'s Settings<'s>,
@@ -105,6 +104,34 @@ struct Following<'s, 'r, R, I> {
     wait: Option<Instant>,
 }
 
+// It is let go in one call, however many parts it has.
+impl<R: Drop, I: Drop> Drop for Following<'_, '_, R, I> {
+    fn drop(self) {
+        let Following {
+            rt: _,
+            settings: _,
+            folder: _,
+            health: _,
+            inflow: _,
+            name: _,
+            out: _,
+            position: _,
+            counts: _,
+            lines: _,
+            handed: _,
+            taken: _,
+            front: _,
+            cuts: _,
+            synced: _,
+            is_unwell: _,
+            came: _,
+            look: _,
+            renew: _,
+            wait: _,
+        } = self;
+    }
+}
+
 /// Follows a log: hands out on standard output what its lines come to, each with its number, as long as nothing stops it.
 ///
 /// # Errors
@@ -125,8 +152,43 @@ where
     let folder = LiveFolder::hold(rt, settings.dir)?;
     let mut log = LogFolder::new(rt, place.folder, place.name, settings.patience)?;
     let begin = begin_text(rt, &folder, place, &mut log)?;
+    follow_from(rt, settings, place, folder, log, &begin, run)
+}
+
+// Follows a log, where a journal that isn't there is begun at a position.
+fn follow_from<'a, R, T>(
+    rt: &'a R,
+    settings: &'a Settings<'a>,
+    place: LogPlace<'a>,
+    folder: LiveFolder<'a, R>,
+    log: LogFolder<'a, R>,
+    begin: &[u8],
+    run: LiveRun<T>,
+) -> Result<(), LiveStop>
+where
+    R: Files<File = File> + AllocGlobal + Print + Eprint + Clock + Clone + Drop,
+    T: LineTaker + Measured,
+{
     let mut out = Vec::new(rt.alloc());
-    let live = opened(rt, settings.sum, folder.journal()?, &begin, run, &mut out)?;
+    let live = opened_in(rt, settings, &folder, begin, run, &mut out)?;
+    follow_behind(rt, settings, place, folder, log, live, out)
+}
+
+// Follows a log from where its journal stands.
+fn follow_behind<'a, R, T>(
+    rt: &'a R,
+    settings: &'a Settings<'a>,
+    place: LogPlace<'a>,
+    folder: LiveFolder<'a, R>,
+    log: LogFolder<'a, R>,
+    live: Live<JournalFiles<'a, R>, T>,
+    out: Vec<u8>,
+) -> Result<(), LiveStop>
+where
+    R: Files<File = File> + AllocGlobal + Print + Eprint + Clock + Clone + Drop,
+    T: LineTaker + Measured,
+{
+    let mut log = log;
     let follower = follower_at(rt, place, &mut log, live.position(), settings.longest)?;
     let inflow = LogInflow {
         rt,
@@ -157,9 +219,26 @@ where
 {
     let folder = LiveFolder::hold(rt, settings.dir)?;
     let mut out = Vec::new(rt.alloc());
-    let live = opened(rt, settings.sum, folder.journal()?, b"", run, &mut out)?;
+    let live = opened_in(rt, settings, &folder, b"", run, &mut out)?;
     let inflow = FedInflow::new(rt.alloc(), input, live.position(), settings.longest)?;
     run_over(rt, settings, folder, inflow, live, out)
+}
+
+// The run of a folder, behind all lines of its journal. What is handed out for them is added.
+fn opened_in<'r, R, T>(
+    rt: &'r R,
+    settings: &Settings<'_>,
+    folder: &LiveFolder<'r, R>,
+    begin: &[u8],
+    run: LiveRun<T>,
+    out: &mut Vec<u8>,
+) -> Result<Live<JournalFiles<'r, R>, T>, LiveStop>
+where
+    R: Files<File = File> + AllocGlobal + Clone + Drop,
+    T: LineTaker,
+{
+    let files = folder.journal()?;
+    opened(rt, settings.sum, files, begin, run, out)
 }
 
 // Hands out what the journal has, which is this, and goes on with an inflow.
@@ -177,11 +256,35 @@ where
     T: LineTaker + Measured,
 {
     let mut live = live;
+    let ended = run_with(rt, settings, folder, inflow, &mut live, out);
+    let files = live.into_folder();
+    ended_by(ended, files.fault())
+}
+
+// The same, but for why the journal's files failed.
+fn run_with<'s, 'r, R, I, T>(
+    rt: &'r R,
+    settings: &'s Settings<'s>,
+    folder: LiveFolder<'r, R>,
+    inflow: I,
+    live: &mut Live<JournalFiles<'r, R>, T>,
+    out: Vec<u8>,
+) -> Result<(), Halt>
+where
+    R: Files<File = File> + AllocGlobal + Print + Eprint + Clock + Clone + Drop,
+    I: Inflow,
+    T: LineTaker + Measured,
+{
     let mut following = Following::new(rt, settings, folder, inflow, out)?;
-    match following.run(&mut live) {
+    following.run(live)
+}
+
+// How a run ends, whose journal's files know so much of why.
+fn ended_by(ended: Result<(), Halt>, fault: Option<FileFault>) -> Result<(), LiveStop> {
+    match ended {
         Ok(()) => Ok(()),
         Err(Halt::Stop(stop)) => Err(stop),
-        Err(Halt::Journal(error)) => Err(stop_of(error, live.into_folder().fault())),
+        Err(Halt::Journal(error)) => Err(stop_of(error, fault)),
     }
 }
 
@@ -254,15 +357,26 @@ where
         self.name = RunName::of(name);
         self.front = front;
         self.handed = count;
-        let all = self.folder.taken()?;
-        self.taken = least_taken(self.rt.alloc(), &all, self.handed_with(Some(&self.out)))?;
-        let (sum, cut) = (self.settings.sum, front.count);
-        let first = format!(in self.rt.alloc(); "live,{name},{sum},{cut}\n")?;
-        put(self.rt, first.as_bytes())?;
+        self.look_at_first()?;
+        self.put_first(name)?;
         self.synced = seconds(self.rt);
         let size = self.folder.journal_size()?;
         self.cuts = Cuts::new(self.settings.cut, size, Instant::now(self.rt).ok());
         self.hand_out(count)
+    }
+
+    // Looks at what sinks told, before all that the journal has is handed out.
+    fn look_at_first(&mut self) -> Result<(), LiveStop> {
+        let all = self.folder.taken()?;
+        self.taken = least_taken(self.rt.alloc(), &all, self.handed_with(Some(&self.out)))?;
+        Ok(())
+    }
+
+    // Hands out the run's name and how many lines are cut.
+    fn put_first(&self, name: &str) -> Result<(), LiveStop> {
+        let (sum, cut) = (self.settings.sum, self.front.count);
+        let first = format!(in self.rt.alloc(); "live,{name},{sum},{cut}\n")?;
+        put(self.rt, first.as_bytes())
     }
 
     // What was handed out, with the lines, where they are there.

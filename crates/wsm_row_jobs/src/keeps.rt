@@ -1,14 +1,14 @@
 //! `wsm keep`: what cutting rows does with files, standard input and standard output.
 
 use std::alloc::Global;
-use std::fs::File;
+use std::fs::{File, Metadata};
 use std::io::{self, BufWriter, Eprint, Read, Write};
 use std::rt::Files;
 use wsm::{End, Guarded, accepted_of};
 use wsm_explain::input_sum;
 use wsm_job::{RowsFault, Stop, input_of, number_in, read};
 use wsm_kept::{Asked, Head, KeepEnd, cut_over};
-use wsm_replace::{LinesFault, Place, WholeLines, size_of};
+use wsm_replace::{LinesFault, Place, ReplaceFault, WholeLines, size_of};
 use wsm_rules::Verified;
 use wsm_words::KeepJob;
 
@@ -152,20 +152,43 @@ fn keep_at<R: Files<File = File> + AllocGlobal + Eprint>(
     place: &Place,
 ) -> Result<(), Stop> {
     let (file, was) = place.old(rt)?;
-    let is_whole = was.len() <= wanted.most;
     let mut lines = WholeLines::new(rt.alloc(), file, wanted.most)?;
     let mut new = place.new_file(rt)?;
-    let head = cut_lines(rt.alloc(), wanted, is_whole, &mut lines, &new)?;
-    let size = size_of(&new)?;
+    keep_lines(rt, wanted, place, &was, &mut lines, &mut new)
+}
+
+// The same of its lines, into that one.
+fn keep_lines<R: Files<File = File> + AllocGlobal + Eprint>(
+    rt: &R,
+    wanted: Wanted,
+    place: &Place,
+    was: &Metadata,
+    lines: &mut WholeLines<File>,
+    new: &mut File,
+) -> Result<(), Stop> {
+    let is_whole = was.len() <= wanted.most;
+    let head = cut_lines(rt.alloc(), wanted, is_whole, lines, &*new)?;
+    put_in_place(rt, place, was, new, &head)?;
+    add_what_came(lines, new)
+}
+
+// Puts the file beside it in its place, unless that is no smaller, and tells which it was.
+fn put_in_place<R: Files<File = File> + Eprint>(
+    rt: &R,
+    place: &Place,
+    was: &Metadata,
+    new: &File,
+    head: &Head,
+) -> Result<(), ReplaceFault> {
+    let size = size_of(new)?;
     if was.len() <= size {
         let _ = eprintln!(rt; "wsm: ROWS stays as it is, since it would be no smaller");
-        place.give_up(rt)?;
-    } else {
-        place.replace(rt, &new, &was)?;
-        tell_head(rt, &head);
-        let _ = eprintln!(rt; "wsm: {was} bytes became {size}", was = was.len());
+        return place.give_up(rt);
     }
-    add_what_came(&mut lines, &mut new)
+    place.replace(rt, new, was)?;
+    tell_head(rt, head);
+    let _ = eprintln!(rt; "wsm: {was} bytes became {size}", was = was.len());
+    Ok(())
 }
 
 // Adds to a file what came to the one before while it was cut, by somebody who held no lock.

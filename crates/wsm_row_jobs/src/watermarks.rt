@@ -24,19 +24,30 @@ pub fn follow<R: Files<File = File> + AllocGlobal + Input + Print + Eprint>(
     job: &WatermarksJob,
 ) -> Result<bool, Stop> {
     let rules = rules_of(rt, job)?;
-    let totals = match &job.rows {
-        None => written(rt, rules, rt.reader())?,
-        Some(rows) => match File::open(rt, rows.as_str()) {
-            Ok(rows) => written(rt, rules, rows)?,
-            Err(error) => return Err(Stop::End(end_of(&error, End::ReadFailed))),
-        },
-    };
+    let totals = written_of(rt, rules, job.rows.as_ref())?;
     tell(rt, totals);
     if !job.last {
         tell_open(rt, totals);
     }
     write_rows(rt, job.metrics.as_ref(), totals)?;
     Ok(true)
+}
+
+// Writes what the rows of a file come to, or of standard input.
+fn written_of<R: Files<File = File> + AllocGlobal + Input + Print + Eprint>(
+    rt: &R,
+    rules: Rules,
+    rows: Option<&String>,
+) -> Result<Totals, End>
+    requires { AreClocks rules.clocks }
+{
+    match rows {
+        None => written(rt, rules, rt.reader()),
+        Some(rows) => match File::open(rt, rows.as_str()) {
+            Ok(rows) => written(rt, rules, rows),
+            Err(error) => Err(end_of(&error, End::ReadFailed)),
+        },
+    }
 }
 
 // Hands the reader of the rows on. Where it ends well what all its lines come to was written.
@@ -153,9 +164,16 @@ fn clocks_for(agreement: &Agreement, verified: &Verified) -> Result<Clocks, Stop
 
 // What a query declares, with the source of the watermarks first.
 fn schema_for(alloc: Global, schema: &Schema, source: Option<&String>) -> Result<Schema, Stop> {
-    let named = source.map(|name| name.as_bytes());
-    match schema_by_source(alloc, schema, named)? {
+    match schema_by_source(alloc, schema, bytes_of(source))? {
         Some(schema) => Ok(schema),
         None => Err(Stop::Words(WordsFault::NoSource)),
+    }
+}
+
+// The bytes of a word, if it is given.
+fn bytes_of(word: Option<&String>) -> Option<&[u8]> {
+    match word {
+        Some(word) => Some(word.as_bytes()),
+        None => None,
     }
 }

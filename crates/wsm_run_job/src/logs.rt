@@ -11,7 +11,6 @@ use std::rt::Files;
 use std::time::Clock;
 use wsm::{End, Guarded};
 use wsm_job::{Counting, Ran, Stop, Teller, accepted, end_of};
-use wsm_lines::Source;
 use wsm_log_rows::write_rows;
 use wsm_log_run::{end_of_log, run_log};
 use wsm_rules::Verified;
@@ -54,14 +53,15 @@ impl Ready {
             LogWritten (I.remaining log) self.bound.source self.bound.clocks old new m ran.totals) }
     {
         let Ready { verified, bound } = self;
+        let Bound { source, clocks } = bound;
         let writer = Counting::new(rt.alloc(), io::writer(rt), is_counted);
         let mut output = Guarded::new(writer);
         let mut teller = Teller::new(rt);
         let end = run_log(
             rt.alloc(),
             verified,
-            bound.source,
-            bound.clocks,
+            source,
+            clocks,
             log,
             &mut output,
             &mut teller,
@@ -114,10 +114,10 @@ fn rows_by<R: Files + AllocGlobal + Input + Print + Eprint + Clock>(
 ) -> Result<bool, Stop> {
     let bound = source_for(rt, &job.source, verified)?;
     match &job.rows {
-        None => Ok(rows_over(rt, verified, bound.source, rt.reader())?),
+        None => Ok(rows_over(rt, verified, bound, rt.reader())?),
         Some(log) => {
             let log = opened(rt, log, is_looked_at)?;
-            Ok(rows_over(rt, verified, bound.source, log)?)
+            Ok(rows_over(rt, verified, bound, log)?)
         }
     }
 }
@@ -126,12 +126,13 @@ fn rows_by<R: Files + AllocGlobal + Input + Print + Eprint + Clock>(
 fn rows_over<R: AllocGlobal + Print, I: Read + Drop>(
     rt: &R,
     verified: &Verified,
-    source: Source,
+    bound: Bound,
     log: I,
 ) -> Result<bool, End>
     ensures { OnOk result ((old : Option (List ℕ)) × (new : Option (List ℕ)) × (lines : List (List ℕ))
-        × RowsWritten (I.remaining log) source verified.now.header.schema old new lines) }
+        × RowsWritten (I.remaining log) bound.source verified.now.header.schema old new lines) }
 {
+    let Bound { source, clocks: _ } = bound;
     let schema = &verified.program().header().schema;
     let mut output = Guarded::new(io::writer(rt));
     match write_rows(rt.alloc(), schema, source, log, &mut output) {

@@ -28,10 +28,15 @@ pub struct Bound {
 }
 
 /// A source's file, which is read once. What is wrong with it is told when it is asked for.
-#[derive(Drop)]
 pub struct SourceFile<'j> {
     name: &'j String,
     bytes: Result<Vec<u8>, End>,
+}
+
+impl Drop for SourceFile<'_> {
+    fn drop(self) {
+        let SourceFile { name: _, bytes: _ } = self;
+    }
 }
 
 impl<'j> SourceFile<'j> {
@@ -66,11 +71,16 @@ impl<'j> SourceFile<'j> {
     /// Its bytes, and behind them those of the file that its keys are looked up in, where it has one.
     pub fn told<R: Files + AllocGlobal>(&self, rt: &R) -> Result<Vec<u8>, Stop> {
         let text = self.text(rt)?;
-        let description = describe(rt.alloc(), text)?;
-        let names = names_of(rt, self.name, &description.key.naming)?;
+        let names = self.names(rt, text)?;
         let mut told = text.as_bytes().to_vec(rt.alloc())?;
         told.extend_from_slice(&names)?;
         Ok(told)
+    }
+
+    // The bytes of the file that its keys are looked up in; none where it has no such file.
+    fn names<R: Files + AllocGlobal>(&self, rt: &R, text: &str) -> Result<Vec<u8>, Stop> {
+        let description = describe(rt.alloc(), text)?;
+        names_of(rt, self.name, &description.key.naming)
     }
 
     /// The file of the names of any number of keys that it names, which stands beside it. A source that is wrong names none.
@@ -79,12 +89,21 @@ impl<'j> SourceFile<'j> {
             return Ok(None);
         };
         match describe(rt.alloc(), text) {
-            Ok(description) => match &description.keys {
-                Some(file) => Ok(Some(path_beside(rt, self.name.as_str(), file.as_str())?)),
-                None => Ok(None),
-            },
+            Ok(description) => self.keys_beside(rt, &description.keys),
             Err(SourceRefusal::Memory) => Err(Stop::End(End::Memory)),
             Err(_) => Ok(None),
+        }
+    }
+
+    // The path of the file of its keys, where it names one.
+    fn keys_beside<R: AllocGlobal>(
+        &self,
+        rt: &R,
+        keys: &Option<Word>,
+    ) -> Result<Option<String>, Stop> {
+        match keys {
+            Some(file) => Ok(Some(path_beside(rt, self.name.as_str(), file.as_str())?)),
+            None => Ok(None),
         }
     }
 }
