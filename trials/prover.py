@@ -16,8 +16,9 @@ from pathlib import Path
 from typing import Any
 
 TOP = Path(__file__).resolve().parent.parent
-# What rt ci prints of a library, or of a program, that it has proved.
-PROVED = re.compile(r"^rt: (\w+) proved$", re.M)
+# What rt ci prints of a library, or of a program, that it has proved or that an earlier run had, and at its end.
+PROVED = re.compile(r"^rt: (\w+) (?:proved$|is kept: )", re.M)
+ENDED = re.compile(r"^\d+ passed, \d+ failed", re.M)
 # A crate as the toolchain has it, whose modules have no types.
 Crate = Any
 
@@ -53,8 +54,13 @@ def above(name: str, folder: Path, libraries: set[str], checkout: Path) -> Crate
 
 
 def proved_by(log: Path) -> set[str]:
-    """The crates that are proved, by what `rt ci` has printed into a file so far."""
+    """The crates that are proved, or were by an earlier run, by what `rt ci` has printed into a file so far."""
     return set(PROVED.findall(log.read_text(errors="replace"))) if log.is_file() else set()
+
+
+def has_ended(log: Path) -> bool:
+    """Whether that `rt ci` has come to its end."""
+    return log.is_file() and ENDED.search(log.read_text(errors="replace")) is not None
 
 
 @functools.cache
