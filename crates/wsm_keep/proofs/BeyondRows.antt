@@ -1,58 +1,42 @@
 -- Where a time parts no session, records that came up to it may be left out for all rows of sessions beyond it, and then no other
 -- rows are written.
-use Rattle.std.proofs.Common.{◌≡◌, ℕ, Bool, true, false, ◌&&◌, cond, List, [], ◌∷◌, ◌++◌, map, length, ℤ, pos, ◌≤ℤ◌, Option, Some, None, refl, sym, ap, subst, ◌∙◌, append-nil}
+use Rattle.std.proofs.Common.{◌≡◌, ℕ, Bool, true, false, ◌&&◌, cond, List, [], ◌∷◌, ◌++◌, map, length, ℤ, Some, None, refl, sym, ap, subst, ◌∙◌, append-nil}
 use Rattle.std.proofs.lemmas.Bool.{eqb-true}
-use Rattle.std.proofs.lemmas.Option.{same_Some}
-use Rattle.std.specs.Prelude.{filter_map, int_lt, nat_eq, option_map}
+use Rattle.std.specs.Prelude.{int_lt, nat_eq}
 use Rattle.std.specs.List.{AllByRecursion}
-use Rattle.wsm_record.specs.declared.cell.Cell.{Cell}
 use Rattle.wsm_record.specs.declared.words.Form.TheVariants.{Panes}
 use Rattle.wsm_record.specs.Event.{Event, Record, Watermark}
-use Rattle.wsm_windows.specs.declared.window.PaneKind.{PaneKind}
 use Rattle.wsm_windows.specs.declared.window.Window.{Window}
 use Rattle.wsm_windows.specs.declared.window.Shape.TheVariants.{Session}
 use Rattle.wsm_windows.specs.declared.place.Place.{Place}
 use Rattle.wsm_windows.specs.Places.{window_of}
 use Rattle.wsm_windows.specs.Windows.{IsShape}
-use Rattle.wsm_semantics.specs.declared.out_row.OutRow.{OutRow}
-use Rattle.wsm_semantics.specs.declared.out_row.OutRow.TheVariants.{Pane}
-use Rattle.wsm_semantics.specs.Query.{Datum, Selects, Nothing, Query, SessionsByEvent, datum, effect_of, is_taken, mark, selected, selection, selection_of}
-use Rattle.wsm_semantics.specs.Panes.{of_key, panes}
-use Rattle.wsm_semantics.specs.Firings.{Firing, fire, firing_of, firing_set, firings, is_shown, kind_on, pane_rows, row_of}
-use Rattle.wsm_semantics.specs.Retractions.{retract_rows}
+use Rattle.wsm_semantics.specs.Query.{Datum, Selects, Nothing, Query, SessionsByEvent, datum, is_taken, mark, selected, selection, selection_of}
+use Rattle.wsm_semantics.specs.Panes.{of_key}
 use Rattle.wsm_semantics.specs.Relation.{turn_rows}
 use Rattle.wsm_semantics.specs.ByKey.{HasRoom, IgnoresTurns}
 use Rattle.wsm_semantics.specs.FromWatermark.{Goes, MayLeaveOut, PartsNoSession, Stays, Step, Times, is_beyond, is_row_at, rest, whole}
 use Rattle.wsm_semantics.specs.LastingRows.{rows_so_far}
-use Rattle.wsm_semantics.proofs.Lists.{all-each}
-use Rattle.wsm_semantics.proofs.Each.{all_of, all-after, filter-append, filter_map-all}
+use Rattle.wsm_semantics.proofs.Each.{all-after, filter-append}
 use Rattle.wsm_semantics.proofs.Effects.{selects_none}
-use Rattle.wsm_semantics.proofs.FiringsSoFar.{not_some}
-use Rattle.wsm_semantics.proofs.KeyFirings.{filter-given}
 use Rattle.wsm_semantics.proofs.KeptLaw.{gap_is_long}
-use Rattle.wsm_semantics.proofs.LaterLaw.{beyond_serves, same_beyond, same_rows_beyond}
+use Rattle.wsm_semantics.proofs.Counted.{Owns, all_at, fired_at, turn_rows_all}
+use Rattle.wsm_semantics.proofs.LaterFirings.{Serves, WithRoom, lacks_old}
+use Rattle.wsm_semantics.proofs.LaterLaw.{beyond_serves, both_empty}
+use Rattle.wsm_semantics.proofs.LaterParts.{rest_parted}
+use Rattle.wsm_semantics.proofs.LaterTurns.{is_new}
 use Rattle.wsm_semantics.proofs.NeededMarks.{later, steps_of, later_room, steps_out, steps_whole}
+use Rattle.wsm_semantics.proofs.StepImage.{Lacks}
+use Rattle.wsm_semantics.proofs.StepRows.{turn_rows_go, turn_rows_stay}
 use Rattle.wsm_semantics.proofs.SessionPlaces.{one_of, sessions_of}
 use Rattle.wsm_semantics.proofs.SessionStep.{among_places}
 use Rattle.wsm_semantics.proofs.SessionTimes.{IsOneOf}
-use Rattle.wsm_semantics.proofs.ShownPanes.{IsPane, each_pane, unshown_of}
+use Rattle.wsm_semantics.proofs.ShownPanes.{IsPane}
 use Rattle.wsm_keep.specs.WrittenBeyond.{rows_beyond}
 use Rattle.wsm_keep.proofs.BeyondTimes.{begin_later, one_later}
-use Rattle.wsm_keep.proofs.TakenEvents.{rows_fired}
-use Rattle.wsm_keep.proofs.WithdrawnBeyond.{retracts_late, retracts_none, retracts_same}
+use Rattle.wsm_keep.proofs.StandsBeyond.{stands_beyond, stands_early}
 
 -- ---- rows of later records
-
--- what fires is a place
-firing_place : (turn : ℕ) (p : Place) (all fired : List Datum) (k : Option PaneKind) (f : Firing) → firing_of turn p all fired k ≡ Some f → f.place ≡ p
-firing_place turn p all fired None f h = absurd (not_some f (sym h))
-firing_place turn p all fired (Some kind) f h = ap (λ (g : Firing). g.place) (sym (same_Some (record { turn = turn; kind = kind; place = p; contents = all; fired = fired }) f h))
-
-row_place : (q : Query) (late : Place → Bool) (f : Firing) (y : OutRow) → row_of q f ≡ Some y → is_row_at late y ≡ late f.place
-row_place q late f y h = by_columns (q.row f.place.key f.fired) h where
-  by_columns : (o : Option (List Cell)) → option_map (Pane f.kind f.place.key (window_of f.place)) o ≡ Some y → is_row_at late y ≡ late f.place
-  by_columns None h = absurd (not_some y (sym h))
-  by_columns (Some columns) h = ap (is_row_at late) (sym (same_Some (Pane f.kind f.place.key (window_of f.place) columns) y h))
 
 module _ (q : Query) (gap : ℤ) (is : q.shape ≡ Session gap) (ok : IsShape q.shape) (x : Times) where
   abbrev IsLater : Datum → Type 0
@@ -76,30 +60,18 @@ module _ (q : Query) (gap : ℤ) (is : q.shape ≡ Session gap) (ok : IsShape q.
       let one : IsOneOf (window_of p) ws = one_of p p.key ws (sym (among_places q gap is (gap_is_long q gap is ok) past p) ∙ pane.1) in
       one_later gap (x p.key) (window_of p) ws one (begin_later gap (x p.key) (map (λ (d : Datum). d.time) (of_key p.key (selected q past))) (times_later p.key (selected q past) all))
 
-  firings_later : (past : List Event) (e : Event) → AllLater (e ∷ past) → AllByRecursion (λ f. is_beyond x f.place ≡ true) (firings q past e)
-  firings_later past e all =
-      filter_map-all (λ p. is_beyond x p.0 ≡ true) (λ f. is_beyond x f.place ≡ true) (λ p. fire (is_shown q past p.0) q (length past) (effect_of q past e) p.0 p.1)
-      (λ p h f fires. ap (is_beyond x)
-      (firing_place (length past) p.0 p.1 (firing_set q.mode p.1 (unshown_of q past p.0 p.1)) (kind_on q (effect_of q past e) p.0 p.1 (unshown_of q past p.0 p.1)) f fires) ∙ h)
-      (panes q (e ∷ past))
-      (all-each (IsPane q (e ∷ past)) (λ p. is_beyond x p.0 ≡ true) (panes q (e ∷ past)) (λ p pane. pane_later (e ∷ past) all p pane) (each_pane q (e ∷ past)))
-
-  module _ (form : q.form ≡ Panes) (timely : SessionsByEvent q) (low : pos 0 ≤ℤ q.clock.lateness) where
-    abbrev withdrawn : List Event → Event → List OutRow
-    withdrawn past e = retract_rows q.mode q past e
-
-    -- by what is withdrawn and what fires
-    in_parts : (past : List Event) (e : Event) → rows_beyond x (turn_rows q past e) ≡ rows_beyond x (withdrawn past e) ++ rows_beyond x (pane_rows q past e)
-    in_parts past e = ap (rows_beyond x) (rows_fired q form past e) ∙ filter-append (is_row_at (is_beyond x)) (withdrawn past e) (pane_rows q past e)
+  module _ (form : q.form ≡ Panes) (timely : SessionsByEvent q) where
+    abbrev beyond : Place → Bool
+    beyond = is_beyond x
 
     rows_later : (past : List Event) (e : Event) → AllLater (e ∷ past) → rows_beyond x (turn_rows q past e) ≡ turn_rows q past e
     rows_later past e all =
-        let fired : rows_beyond x (pane_rows q past e) ≡ pane_rows q past e =
-        all_of (is_row_at (is_beyond x)) (pane_rows q past e)
-        (filter_map-all (λ f. is_beyond x f.place ≡ true) (λ y. is_row_at (is_beyond x) y ≡ true) (row_of q) (λ f h y row. row_place q (is_beyond x) f y row ∙ h) (firings q past e) (firings_later past e all)) in
-        in_parts past e
-        ∙ (λ i. retracts_late q gap is ok timely low x q.mode past e (pane_later past (all-after IsLater (selection_of q past e) (selected q past) all)) i ++ fired i)
-        ∙ sym (rows_fired q form past e)
+        let here = pane_later past (all-after IsLater (selection_of q past e) (selected q past) all) in
+        let next = pane_later (e ∷ past) all in
+        turn_rows_all q beyond past e (all_at q beyond past e here next) form (λ _. (
+          λ y pane g h. stands_beyond q gap is ok timely x past y pane (here y pane) g h ∙ sym (here y pane),
+          λ y pane g h. stands_beyond q gap is ok timely x (e ∷ past) y pane (next y pane) g h ∙ sym (next y pane),
+        ))
 
     -- ---- the later records alone
 
@@ -135,31 +107,46 @@ module _ (q : Query) (gap : ℤ) (is : q.shape ≡ Session gap) (ok : IsShape q.
       abbrev May : List Step → Type 0
       May steps = MayLeaveOut q q.clock.start q.clock.records x steps
 
+      serves : Serves q q.clock.start q.clock.records x beyond May [] [] 0
+      serves = beyond_serves q ok q.clock.records x
+
+      abbrev MayHere : List Step → Type 0
+      MayHere = WithRoom q q.clock.start q.clock.records May [] []
+
+      lacks : Lacks q q.clock.start q.clock.records beyond (is_new x) MayHere [] [] 0
+      lacks = lacks_old q ok timely q.clock.start q.clock.records x beyond May [] [] 0 serves
+
+      -- what stands for a session begins beyond the time where the session does
+      owns : (past : List Event) → PartsNoSession q x past → Owns q beyond past
+      owns past parts y pane g h =
+          elim (beyond y.0) as (λ b. beyond y.0 ≡ b → fired_at beyond g ≡ b) [
+            | true ↦ λ here. stands_beyond q gap is ok timely x past y pane here g h
+            | false ↦ λ early. stands_early q gap is ok timely x past y pane parts early g h
+          ] refl
+
+      rest_owns : (steps : List Step) → May steps → Owns q beyond (rest steps [])
+      rest_owns steps may = owns (rest steps []) (rest_parted q ok q.clock.start q.clock.records x (both_empty q q.clock.records x) steps may.0 may.2 may.1)
+
       -- a record that is left out writes none of these
       gone : (steps : List Step) (e : Event) → May (Goes e ∷ steps) → rows_beyond x (turn_rows q (whole steps []) e) ≡ []
-      gone steps e may =
-          let past : List Event = whole steps [] in
-          let fired : rows_beyond x (pane_rows q past e) ≡ [] =
-          filter-given (row_of q) (is_row_at (is_beyond x)) (λ f. is_beyond x f.place) (row_place q (is_beyond x)) (firings q past e)
-          ∙ ap (filter_map (row_of q)) ((same_beyond q ok timely q.clock.records x).gone steps e may) in
-          in_parts past e ∙ (λ i. retracts_none q gap is ok timely low x q.mode steps e may i ++ fired i)
+      gone steps e may = turn_rows_go q q.clock.start q.clock.records beyond (is_new x) MayHere [] [] 0 lacks e steps (may, may.2) form (λ _. (owns (whole steps []) (serves.goes e steps may).1, owns (e ∷ whole steps []) may.1))
 
       -- and one that stays the same
       stays : (steps : List Step) (e : Event) → May (Stays e ∷ steps) → rows_beyond x (turn_rows q (whole steps []) e) ≡ rows_beyond x (turn_rows q (rest steps []) e)
       stays steps e may =
-          in_parts (whole steps []) e
-          ∙ (λ i. retracts_same q gap is ok timely low x ignores q.mode steps e may i ++ (same_rows_beyond q ok timely ignores q.clock.records x).panes steps e may may.2 i)
-          ∙ sym (in_parts (rest steps []) e)
+          let before : May steps = serves.stays e steps may in
+          turn_rows_stay q q.clock.start q.clock.records beyond (is_new x) MayHere [] [] 0 lacks e steps ignores (may, may.2) form
+          (λ _. (owns (whole steps []) before.1, owns (e ∷ whole steps []) may.1)) (λ _. (rest_owns steps before, rest_owns (Stays e ∷ steps) may))
 
       by_steps : (steps : List Step) → May steps → rows_beyond x (rows_so_far q (whole steps [])) ≡ rows_beyond x (rows_so_far q (rest steps []))
       by_steps [] may = refl
       by_steps (Stays e ∷ steps) may =
           filter-append (is_row_at (is_beyond x)) (rows_so_far q (whole steps [])) (turn_rows q (whole steps []) e)
-          ∙ (λ i. by_steps steps ((beyond_serves q ok q.clock.records x).stays e steps may) i ++ stays steps e may i)
+          ∙ (λ i. by_steps steps (serves.stays e steps may) i ++ stays steps e may i)
           ∙ sym (filter-append (is_row_at (is_beyond x)) (rows_so_far q (rest steps [])) (turn_rows q (rest steps []) e))
       by_steps (Goes e ∷ steps) may =
           filter-append (is_row_at (is_beyond x)) (rows_so_far q (whole steps [])) (turn_rows q (whole steps []) e)
-          ∙ (λ i. by_steps steps ((beyond_serves q ok q.clock.records x).goes e steps may) i ++ gone steps e may i)
+          ∙ (λ i. by_steps steps (serves.goes e steps may) i ++ gone steps e may i)
           ∙ append-nil (rows_beyond x (rows_so_far q (rest steps [])))
 
       pub beyond_alone : (past : List Event) → HasRoom q past → PartsNoSession q x past → rows_beyond x (rows_so_far q past) ≡ rows_so_far q (later q x past)

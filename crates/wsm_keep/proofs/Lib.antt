@@ -17,7 +17,6 @@ pub mod StayingLines
 pub mod TakenEvents
 pub mod BeyondTimes
 pub mod StandsBeyond
-pub mod WithdrawnBeyond
 pub mod BeyondRows
 pub mod RisesTogether
 pub mod WrittenBeyond

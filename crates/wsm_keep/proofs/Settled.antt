@@ -8,14 +8,15 @@ use Rattle.wsm_record.specs.Event.{Event}
 use Rattle.wsm_windows.specs.declared.window.Window.{Window}
 use Rattle.wsm_windows.specs.declared.window.Shape.{Shape}
 use Rattle.wsm_windows.specs.declared.window.Shape.TheVariants.{Fixed, Sliding, Session}
-use Rattle.wsm_windows.specs.Windows.{window, IsShape, last_start, first_start}
+use Rattle.wsm_windows.specs.Windows.{IsShape, last_start, first_start}
 use Rattle.wsm_semantics.specs.Query.{Query, Datum, mark, selected}
-use Rattle.wsm_semantics.specs.Sessions.{with_time, rising, with_earlier, sessions_of_rising, sessions}
+use Rattle.wsm_semantics.specs.Sessions.{sessions}
 use Rattle.wsm_semantics.specs.Panes.{of_key}
 use Rattle.wsm_semantics.specs.FromWatermark.{Times, is_beside, IsSettled, PartsNoSession, last_end, unparted_time, dropped_time, dropped_times}
-use Rattle.wsm_semantics.proofs.Each.{all_of}
+use Rattle.wsm_semantics.proofs.Each.{all_of, passed}
 use Rattle.wsm_semantics.proofs.LaterSessions.{beyond-sessions}
 use Rattle.wsm_semantics.proofs.WindowEnds.{begins_by, last_window}
+use Rattle.wsm_keep.proofs.BeyondTimes.{begin_later}
 
 -- ---- no later
 
@@ -60,46 +61,6 @@ module _ (gap x t : ℤ) (sooner : x ≤ℤ t) where
 
 -- ---- sessions of later times
 
-module _ (x : ℤ) where
-  abbrev IsLater : ℤ → Type 0
-  IsLater t = int_lt x t ≡ true
-
-  later_with : (t : ℤ) (us : List ℤ) → IsLater t → AllByRecursion IsLater us → AllByRecursion IsLater (with_time t us)
-  later_with t [] h k = (h, tt)
-  later_with t (u ∷ us) h k = elim (int_lt t u) as (λ b. AllByRecursion IsLater (cond b (t ∷ u ∷ us) (u ∷ with_time t us))) [
-    | true ↦ (h, k)
-    | false ↦ (k.0, later_with t us h k.1)
-  ]
-
-  later_rising : (ts : List ℤ) → AllByRecursion IsLater ts → AllByRecursion IsLater (rising ts)
-  later_rising [] h = tt
-  later_rising (t ∷ ts) h = later_with t (rising ts) h.0 (later_rising ts h.1)
-
-  module _ (gap : ℤ) where
-    abbrev IsBeyond : Window → Type 0
-    IsBeyond w = int_lt x w.start ≡ true
-
-    beyond_with : (t : ℤ) (ws : List Window) → IsLater t → AllByRecursion IsBeyond ws → AllByRecursion IsBeyond (with_earlier gap t ws)
-    beyond_with t [] h k = (h, tt)
-    beyond_with t (w ∷ ws) h k = elim (int_lt w.start (t +ℤ gap)) as (λ b. AllByRecursion IsBeyond (cond b (window t w.end ∷ ws) (window t (t +ℤ gap) ∷ w ∷ ws))) [
-      | true ↦ (h, k.1)
-      | false ↦ (h, k)
-    ]
-
-    beyond_of : (ts : List ℤ) → AllByRecursion IsLater ts → AllByRecursion IsBeyond (sessions_of_rising gap ts)
-    beyond_of [] h = tt
-    beyond_of (t ∷ ts) h = beyond_with t (sessions_of_rising gap ts) h.0 (beyond_of ts h.1)
-
-    beyond : (ts : List ℤ) → AllByRecursion IsLater ts → AllByRecursion IsBeyond (sessions gap ts)
-    beyond ts h = beyond_of (rising ts) (later_rising ts h)
-
-passed_all : (x : ℤ) (ts : List ℤ) → AllByRecursion (IsLater x) (filter (λ t. int_lt x t) ts)
-passed_all x [] = tt
-passed_all x (t ∷ ts) = elim (int_lt x t) as (λ b. int_lt x t ≡ b → AllByRecursion (IsLater x) (cond b (t ∷ filter (λ t. int_lt x t) ts) (filter (λ t. int_lt x t) ts))) [
-  | true ↦ λ h. (h, passed_all x ts)
-  | false ↦ λ _. passed_all x ts
-] refl
-
 -- of all times the later ones alone decide
 pub later_decide : (gap : ℤ) → pos 1 ≤ℤ gap → (x t : ℤ) → x ≤ℤ t → (ts us : List ℤ) → AllByRecursion (λ w. is_beside gap x w ≡ true) (sessions gap ts) → filter (λ u. int_lt x u) ts ≡ us →
     unparted_time gap t (sessions gap ts) ≡ unparted_time gap t (sessions gap us)
@@ -107,7 +68,7 @@ later_decide gap long x t sooner ts us beside are =
     beyond_part gap x t sooner (sessions gap ts) beside
     ∙ ap (unparted_time gap t) (beyond-sessions gap long x ts beside)
     ∙ ap (λ (vs : List ℤ). unparted_time gap t (filter (λ w. int_lt x w.start) (sessions gap vs))) are
-    ∙ ap (unparted_time gap t) (all_of (λ w. int_lt x w.start) (sessions gap us) (beyond x gap us (subst (AllByRecursion (IsLater x)) are (passed_all x ts))))
+    ∙ ap (unparted_time gap t) (all_of (λ w. int_lt x w.start) (sessions gap us) (begin_later gap x us (subst (AllByRecursion (λ u. int_lt x u ≡ true)) are (passed (λ u. int_lt x u) ts))))
 
 -- ---- after a history
 

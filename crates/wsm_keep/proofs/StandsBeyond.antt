@@ -23,11 +23,11 @@ use Rattle.wsm_semantics.proofs.EventTurns.{greatest_is}
 use Rattle.wsm_semantics.proofs.FiringsSoFar.{IsFiring, each_firing, first_of, shows_key}
 use Rattle.wsm_semantics.proofs.KeptLaw as kept_law
 use Rattle.wsm_semantics.proofs.KeptLaw.{gap_is_long}
-use Rattle.wsm_semantics.proofs.KeyFirings.{all-of_map}
-use Rattle.wsm_semantics.proofs.LaterFirings.{is_late}
+use Rattle.wsm_semantics.proofs.Counted.{fired_at}
+use Rattle.wsm_semantics.proofs.Given.{all-of_map, of_passed}
+use Rattle.wsm_semantics.proofs.LaterFirings.{finds_late}
 use Rattle.wsm_semantics.proofs.LaterPanes.{beyond_lates}
 use Rattle.wsm_semantics.proofs.LaterSessions.{AreBeside, begins_beyond, beyond-sessions, is_past}
-use Rattle.wsm_semantics.proofs.LaterSettled.{candidates_found}
 use Rattle.wsm_semantics.proofs.MergedRecords.{holds-filter, selected_falls}
 use Rattle.wsm_semantics.proofs.SessionPlaces.{one_of, sessions_of}
 use Rattle.wsm_semantics.proofs.Sessions.{sessions_apart}
@@ -39,15 +39,6 @@ use Rattle.wsm_semantics.proofs.Within.{IsPart, within}
 use Rattle.wsm_keep.proofs.BeyondTimes.{begin_later}
 
 -- ---- lists
-
--- what is true of those that pass is true of each that passes
-pub of_passed : {A : Type 0} (P : A → Type 0) (t : A → Bool) (xs : List A) → AllByRecursion P (filter t xs) → AllByRecursion (λ x. t x ≡ true → P x) xs
-of_passed P t [] h = tt
-of_passed {A} P t (x ∷ xs) h =
-    elim (t x) as (λ b. t x ≡ b → AllByRecursion P (cond b (x ∷ filter t xs) (filter t xs)) → AllByRecursion (λ x. t x ≡ true → P x) (x ∷ xs)) [
-      | true ↦ λ _ k. (λ _. k.0, of_passed P t xs k.1)
-      | false ↦ λ fails k. ((λ passes. absurd (true≢false (sym passes ∙ fails))), of_passed P t xs k)
-    ] refl h
 
 each_one : (ws vs : List Window) → ((w : Window) → IsOneOf w ws → IsOneOf w vs) → AllByRecursion (λ w. IsOneOf w vs) ws
 each_one [] vs within = tt
@@ -86,7 +77,7 @@ begins_sooner x start t h k = grind (arith, ints)
 
 module _ (q : Query) (gap : ℤ) (is : q.shape ≡ Session gap) (ok : IsShape q.shape) (timely : SessionsByEvent q) (x : Times) (past : List Event) where
   abbrev late : Firing → Bool
-  late = is_late q (is_beyond x)
+  late = fired_at (is_beyond x)
 
   abbrev stands : Place × List Datum → Option Firing
   stands y = standing q (firings_so_far q past) y.0 y.1
@@ -97,7 +88,7 @@ module _ (q : Query) (gap : ℤ) (is : q.shape ≡ Session gap) (ok : IsShape q.
     beyond here =
         let fs : List Firing = filter late (firings_so_far q past) in
         subst (λ (cs : List Firing). IfSome (greatest_of cs) (λ g. late g ≡ true))
-        (sym (candidates_found q ok timely x (is_beyond x) (beyond_lates x) past y.0 y.1 pane.1 pane.0 here))
+        (sym ((finds_late q ok timely x (is_beyond x) (beyond_lates x)).standing past y.0 y.1 here pane.1 pane.0))
         (greatest_is (λ g. late g ≡ true) (candidates q y.0 y.1 fs) (filter-all (λ g. late g ≡ true) (λ g. shows q.shape y.0 g.place && is_within g.contents y.1) fs (passed late (firings_so_far q past))))
 
     pub stands_beyond : is_beyond x y.0 ≡ true → (g : Firing) → stands y ≡ Some g → late g ≡ true

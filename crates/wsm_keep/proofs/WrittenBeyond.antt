@@ -60,5 +60,5 @@ writes_beyond plan lawful q runs ok timely low writes past =
     ∙ sym (ap (λ (es : List Event). length (rows_so_far q es)) (taken_needs q x past []))
     ∙ as_many plan lawful q runs ok timely low writes.form x some room (roomy q x (needed_without q x [] some) (all_taken q x some []))
     ∙ ap length (
-    sym (beyond_alone q gap is ok x writes.form timely low (turns_ignored plan q runs) some room none)
+    sym (beyond_alone q gap is ok x writes.form timely (turns_ignored plan q runs) some room none)
     ∙ ap (rows_beyond x) (taken_rows plan lawful q runs ok timely low writes.form past))

@@ -1,256 +1,131 @@
--- What a part of a history fires, turn by turn: what the whole fires for its keys.
-use Rattle.std.proofs.Common.{◌≡◌, ℕ, ◌<◌, Bool, true, false, ◌&&◌, ◌||◌, cond, not, List, [], ◌∷◌, ◌++◌, map, length, Option, Some, None, refl, sym, ap, subst, ◌∙◌, append-nil}
-use Rattle.std.proofs.lemmas.Bool.{true≢false, and_parts}
-use Rattle.std.proofs.lemmas.List.{map-append}
-use Rattle.std.proofs.Math.Bool.{or-false}
-use Rattle.std.specs.Prelude.{filter, filter_map, nat_eq, option_map}
-use Rattle.std.specs.List.{AllByRecursion, cons_option, list_any}
-use Rattle.wsm_record.proofs.Lists.{list_any-map}
-use Rattle.wsm_record.specs.declared.words.Mode.{Mode}
-use Rattle.wsm_record.specs.Modes.{is_over_all}
+-- A part of a history lacks the records of other keys: so it holds and fires for its keys what the whole does.
+use Rattle.std.proofs.Common.{◌≡◌, ℕ, Bool, true, false, cond, List, [], ◌∷◌, ◌++◌, map, length, Some, refl, sym, ap, subst, ◌∙◌}
+use Rattle.std.proofs.lemmas.Bool.{true≢false}
+use Rattle.std.specs.Prelude.{filter}
+use Rattle.std.specs.List.{AllByRecursion}
 use Rattle.wsm_record.specs.Event.{Event, Record, Watermark}
-use Rattle.wsm_windows.specs.declared.window.PaneKind.{PaneKind}
+use Rattle.wsm_admission.specs.Clock.{marks_of}
 use Rattle.wsm_windows.specs.declared.place.Place.{Place}
-use Rattle.wsm_semantics.specs.Query.{Datum, Query, mark, Effect, Selects, Rises, Nothing, effect_of, selected, selection_of}
-use Rattle.wsm_semantics.specs.Panes.{is_there, panes, contents}
-use Rattle.wsm_semantics.specs.Firings.{Firing, firings, firings_so_far, firing_of, firing_set, holds, is_shown, kind_on, kind_on_record, kind_on_watermark, shows}
-use Rattle.wsm_semantics.specs.ByKey.{Keys, is_of, of_keys, where_of, HasRoom, at_turn, pane_at, firing_at, is_at}
-use Rattle.wsm_semantics.proofs.Lists.{all-each, filter_same, length_each}
-use Rattle.wsm_semantics.proofs.Each.{same_key, passed, filter-map, filter-append, list_any-filter, list_any-each, all-any}
-use Rattle.wsm_semantics.proofs.Effects.{effect_with, by_record}
-use Rattle.wsm_semantics.proofs.MergedRecords.{unlike}
-use Rattle.wsm_semantics.proofs.ShownPanes.{IsPane, each_pane, unshown_of, kind_of, does, firings_are, contents_below}
-use Rattle.wsm_semantics.proofs.FiringsSoFar.{shows_key, fires_as}
-use Rattle.wsm_semantics.proofs.KeyTurns.{IsRising, same_turn, AreTurns, is_said, effect_of_part, selects_others}
-use Rattle.wsm_semantics.proofs.KeyPanes.{panes_of_part}
-
--- ---- lists of what is given
-
--- what passes of what some give is what those that pass give
-pub filter-given : {A B : Type 0} (g : A → Option B) (t : B → Bool) (u : A → Bool) → ((x : A) (y : B) → g x ≡ Some y → t y ≡ u x) → (xs : List A) → filter t (filter_map g xs) ≡ filter_map g (filter u xs)
-filter-given g t u same [] = refl
-filter-given {A} {B} g t u same (x ∷ xs) =
-    elim (g x) as (λ o. g x ≡ o → filter t (cons_option o (filter_map g xs)) ≡ filter_map g (cond (u x) (x ∷ filter u xs) (filter u xs))) [
-      | None ↦ λ h. filter-given g t u same xs ∙ elim (u x) as (λ b. filter_map g (filter u xs) ≡ filter_map g (cond b (x ∷ filter u xs) (filter u xs))) [
-        | true ↦ ap (λ (o : Option B). cons_option o (filter_map g (filter u xs))) (sym h)
-        | false ↦ refl
-      ]
-      | Some y ↦ λ h. ap (λ (b : Bool). cond b (y ∷ filter t (filter_map g xs)) (filter t (filter_map g xs))) (same x y h)
-          ∙ elim (u x) as (λ b. cond b (y ∷ filter t (filter_map g xs)) (filter t (filter_map g xs)) ≡ filter_map g (cond b (x ∷ filter u xs) (filter u xs))) [
-            | true ↦ ap (λ (ys : List B). y ∷ ys) (filter-given g t u same xs) ∙ ap (λ (o : Option B). cons_option o (filter_map g (filter u xs))) (sym h)
-            | false ↦ filter-given g t u same xs
-          ]
-    ] refl
-
-map-given : {B C : Type 0} (k : B → C) (o : Option B) (ys : List B) → cons_option (option_map k o) (map k ys) ≡ map k (cons_option o ys)
-map-given k None ys = refl
-map-given k (Some y) ys = refl
-
--- what some give as others do
-pub filter_map-image : {A B C D : Type 0} (g : B → Option D) (h : A → B) (j : A → Option C) (k : C → D) (xs : List A) → AllByRecursion (λ x. g (h x) ≡ option_map k (j x)) xs →
-    filter_map g (map h xs) ≡ map k (filter_map j xs)
-filter_map-image g h j k [] each = refl
-filter_map-image g h j k (x ∷ xs) each = (λ i. cons_option (each.0 i) (filter_map-image g h j k xs each.1 i)) ∙ map-given k (j x) (filter_map j xs)
-
-pub all-of_map : {A B : Type 0} (P : B → Type 0) (h : A → B) (xs : List A) → AllByRecursion P (map h xs) → AllByRecursion (λ x. P (h x)) xs
-all-of_map P h [] each = tt
-all-of_map P h (x ∷ xs) each = (each.0, all-of_map P h xs each.1)
-
-pub list_any-wider : {A : Type 0} (t u : A → Bool) → ((x : A) → t x ≡ true → u x ≡ true) → (xs : List A) → list_any t xs ≡ list_any t (filter u xs)
-list_any-wider t u within xs =
-    list_any-each t (λ x. u x && t x) xs (all-any (λ x. t x ≡ (u x && t x)) (λ x. narrowed (t x) (u x) (within x)) xs)
-    ∙ sym (list_any-filter t u xs)
-  where
-    narrowed : (a b : Bool) → (a ≡ true → b ≡ true) → a ≡ (b && a)
-    narrowed true b h = ap (λ (c : Bool). c && true) (sym (h refl))
-    narrowed false true h = refl
-    narrowed false false h = refl
-
--- ---- records at other turns
-
-module _ (f : ℕ → ℕ) where
-  pub length-turned : (ds : List Datum) → length (map (at_turn f) ds) ≡ length ds
-  length-turned ds = length_each (at_turn f) ds
-
-  pub set_turned : (mode : Mode) (all unshown : List Datum) → firing_set mode (map (at_turn f) all) (map (at_turn f) unshown) ≡ map (at_turn f) (firing_set mode all unshown)
-  set_turned mode all unshown =
-      elim (is_over_all mode) as (λ b. cond b (map (at_turn f) all) (map (at_turn f) unshown) ≡ map (at_turn f) (cond b all unshown)) [
-        | true ↦ refl
-        | false ↦ refl
-      ]
-
-  pub firing_turned : (m n : ℕ) → m ≡ f n → (p : Place) (all set : List Datum) (kind : Option PaneKind) →
-      firing_of m p (map (at_turn f) all) (map (at_turn f) set) kind ≡ option_map (firing_at f) (firing_of n p all set kind)
-  firing_turned m n turn p all set None = refl
-  firing_turned m n turn p all set (Some kind) = λ i. Some (record { turn = turn i; kind = kind; place = p; contents = map (at_turn f) all; fired = map (at_turn f) set })
-
-  module _ (rises : IsRising f) where
-    pub holds_turned : (d : Datum) (ds : List Datum) → holds (at_turn f d) (map (at_turn f) ds) ≡ holds d ds
-    holds_turned d ds =
-        list_any-map (λ x. nat_eq x.turn (f d.turn)) (at_turn f) ds
-        ∙ list_any-each (λ x. nat_eq (f x.turn) (f d.turn)) (λ x. nat_eq x.turn d.turn) ds (all-any (λ x. nat_eq (f x.turn) (f d.turn) ≡ nat_eq x.turn d.turn) (λ x. same_turn f rises x.turn d.turn) ds)
-
--- ---- what a turn fires
+use Rattle.wsm_semantics.specs.Query.{Query, mark, selected, verdict_on}
+use Rattle.wsm_semantics.specs.Panes.{held}
+use Rattle.wsm_semantics.specs.Firings.{Firing, firings, firings_so_far, shows}
+use Rattle.wsm_semantics.specs.ByKey.{Keys, is_of, of_keys, where_of, HasRoom, pane_at, firing_at, is_at, turn_of}
+use Rattle.wsm_semantics.specs.FromWatermark.{Step, Stays, Goes, whole, rest}
+use Rattle.wsm_semantics.proofs.Lists.{length_each}
+use Rattle.wsm_semantics.proofs.Each.{filter-append, passed}
+use Rattle.wsm_semantics.proofs.FiringsSoFar.{shows_key}
+use Rattle.wsm_semantics.proofs.Moves.{own}
+use Rattle.wsm_semantics.proofs.Counted.{AllAt, Owns, all_at, finds_own, fires_none, live_at, owns_shown}
+use Rattle.wsm_semantics.proofs.ImageFirings.{Image}
+use Rattle.wsm_semantics.proofs.ImageStanding.{Told, Turn, held_alike}
+use Rattle.wsm_semantics.proofs.StepTurns.{rest_is, turn, whole_is}
+use Rattle.wsm_semantics.proofs.StepImage.{Lacks, image_at, told_at, turn_at}
+use Rattle.wsm_semantics.proofs.KeyParts.{marks_of_part, verdict_of_part}
+use Rattle.wsm_semantics.proofs.KeyTurns.{AreOf, are_of, is_said, rest_of, selects_others, steps_of, turn_is}
+use Rattle.wsm_semantics.proofs.KeyPanes.{among_alone, panes_own, said_there}
 
 -- a firing of the keys
 abbrev pub is_fired_at : Keys → Firing → Bool
 is_fired_at keys g = is_at keys g.place
 
-module _ (q : Query) (keys : Keys) (f : ℕ → ℕ) (rises : IsRising f) where
-  -- what is shown of places of the keys is what the part shows
-  abbrev pub ShowsAlike : List Event → Type 0
-  ShowsAlike past = (p : Place) → is_at keys p ≡ true → (d : Datum) → is_shown q past p (at_turn f d) ≡ is_shown q (of_keys keys past) p d
+module _ (q : Query) (keys : Keys) where
+  -- what shows records of a key is of the key
+  shows_own : (p r : Place) → shows q.shape p r ≡ true → is_at keys r ≡ is_at keys p
+  shows_own p r shown = ap (λ (k : ℕ). keys (Some k)) (sym (shows_key q.shape p r shown))
 
-  given_at : (past : List Event) (e : Event) (x : Place × List Datum) (g : Firing) → does q past e x ≡ Some g → is_fired_at keys g ≡ is_at keys x.0
-  given_at past e x g h = ap (is_at keys) (fires_as q past e x.0 x.1 g h).place
+  pub owns_key : (past : List Event) → Owns q (is_at keys) past
+  owns_key = owns_shown q (is_at keys) shows_own
 
-  filter-firings : (past : List Event) (e : Event) → filter (is_fired_at keys) (firings q past e) ≡ filter_map (does q past e) (filter (λ x. is_at keys x.0) (panes q (e ∷ past)))
-  filter-firings past e =
-      ap (filter (is_fired_at keys)) (firings_are q past e)
-      ∙ filter-given (does q past e) (is_fired_at keys) (λ x. is_at keys x.0) (given_at past e) (panes q (e ∷ past))
+  -- an event of another part fires none of them
+  pub others_none : (past : List Event) (e : Event) → is_of keys e ≡ false → filter (is_fired_at keys) (firings q past e) ≡ []
+  others_none past (Watermark o t) other = absurd (true≢false other)
+  others_none past (Record k t vs) other = fires_none q (is_at keys) (is_said keys) (said_there keys q) past k t vs (selects_others q keys past (Record k t vs) other)
 
-  module _ (past : List Event) (shown : ShowsAlike past) where
-    abbrev part : List Event
-    part = of_keys keys past
+  abbrev pub MayPart : List Step → Type 0
+  MayPart steps = AreOf keys steps × HasRoom q (whole steps [])
 
-    unshown_alike : (p : Place) → is_at keys p ≡ true → (all : List Datum) → unshown_of q past p (map (at_turn f) all) ≡ map (at_turn f) (unshown_of q part p all)
-    unshown_alike p here all =
-        filter-map (at_turn f) (λ d. not (is_shown q past p d)) all
-        ∙ ap (map (at_turn f)) (filter_same (λ d. not (is_shown q past p (at_turn f d))) (λ d. not (is_shown q part p d)) (λ d. ap not (shown p here d)) all)
+  pub lacks : Lacks q q.clock.start q.clock.records (is_at keys) (is_said keys) MayPart [] [] 0
+  lacks = record {
+    unturned = λ f d. refl;
+    stand = said_there keys q;
+    finds = finds_own q (is_at keys) (λ p r here shown. shows_own p r shown ∙ here);
+    finds_anew = finds_own q (is_at keys) (λ p r here shown. shows_own p r shown ∙ here);
+    turns = refl;
+    stays = λ e steps may. (may.0.1, may.1.1);
+    goes = λ e steps may. (may.0.1, may.1.1);
+    marks = λ steps may. ap (marks_of q.clock q.declared) (rest_of keys steps may.0) ∙ marks_of_part q.clock q.declared keys (whole steps []);
+    verdict = λ e steps may. ap (λ (es : List Event). verdict_on q es e) (rest_of keys steps may.0.1) ∙ verdict_of_part q keys (whole steps []) e may.1;
+    enters = λ e steps may. selects_others q keys (whole steps []) e may.0.0;
+    silent = λ e steps may. others_none (whole steps []) e may.0.0;
+    covered = λ steps may. (
+      λ p here. among_alone keys q.shape q.clock.lateness p here (selected q (whole steps [])),
+      λ p here. among_alone keys q.shape q.clock.lateness p here (selected q (rest steps [])),
+    );
+    none_selected = (refl, refl);
+    none_fired = (refl, refl);
+  }
 
-    kind_turned : (x : Effect) (p : Place) (all left : List Datum) → kind_on q (effect_with (at_turn f) x) p (map (at_turn f) all) (map (at_turn f) left) ≡ kind_on q x p all left
-    kind_turned (Selects d) p all left = λ i. cond (holds_turned f rises d all i) (kind_on_record q d.mark p.end (length-turned f left i)) None
-    kind_turned (Rises old new) p all left =
-        let set : length (firing_set q.mode (map (at_turn f) all) (map (at_turn f) left)) ≡ length (firing_set q.mode all left) =
-        ap (λ (ds : List Datum). length ds) (set_turned f q.mode all left) ∙ length-turned f (firing_set q.mode all left) in
-        λ i. kind_on_watermark q old new p (set i) (length-turned f left i)
-    kind_turned Nothing p all left = refl
+  -- ---- the whole and the part
 
-    kind_alike : (e : Event) → HasRoom q (e ∷ past) → is_of keys e ≡ true → f (length part) ≡ length past → (p : Place) → is_at keys p ≡ true → (all : List Datum) → kind_of q past e p (map (at_turn f) all) ≡ kind_of q part e p all
-    kind_alike e room of turn p here all =
-        (λ i. kind_on q (effect_of_part q keys f past e room of turn i) p (map (at_turn f) all) (unshown_alike p here all i))
-        ∙ kind_turned (effect_of q part e) p all (unshown_of q part p all)
+  abbrev pub image : List Event → Image q (own q)
+  image past = image_at q q.clock.start q.clock.records (is_at keys) (is_said keys) MayPart [] [] 0 lacks (steps_of keys past)
 
-    does_alike : (e : Event) → HasRoom q (e ∷ past) → is_of keys e ≡ true → f (length part) ≡ length past → (x : Place × List Datum) → is_at keys x.0 ≡ true → does q past e (pane_at f x) ≡ option_map (firing_at f) (does q part e x)
-    does_alike e room of turn x here =
-        let all : List Datum = map (at_turn f) x.1 in
-        let left : List Datum = unshown_of q part x.0 x.1 in
-        (λ i. firing_of (length past) x.0 all (firing_set q.mode all (unshown_alike x.0 here x.1 i)) (kind_alike e room of turn x.0 here x.1 i))
-        ∙ ap (λ (set : List Datum). firing_of (length past) x.0 all set (kind_of q part e x.0 x.1)) (set_turned f q.mode x.1 left)
-        ∙ firing_turned f (length past) (length part) (sym turn) x.0 x.1 (firing_set q.mode x.1 left) (kind_of q part e x.0 x.1)
+  may : (past : List Event) → HasRoom q past → MayPart (steps_of keys past)
+  may past room = (are_of keys past, subst (HasRoom q) (sym (whole_is (is_of keys) past)) room)
 
-    -- an event of the part
-    fires_alike : (e : Event) → HasRoom q (e ∷ past) → AreTurns keys f (e ∷ past) → is_of keys e ≡ true → filter (is_fired_at keys) (firings q past e) ≡ map (firing_at f) (firings q part e)
-    fires_alike e room turns of =
-        let same : filter (λ x. is_at keys x.0) (panes q (e ∷ past)) ≡ map (pane_at f) (panes q (e ∷ part)) =
-        panes_of_part q keys f (e ∷ past) room turns ∙ ap (λ (b : Bool). map (pane_at f) (panes q (cond b (e ∷ part) part))) of in
-        let each : AllByRecursion (λ x. is_at keys x.0 ≡ true) (panes q (e ∷ part)) =
-        all-of_map (λ x. is_at keys x.0 ≡ true) (pane_at f) (panes q (e ∷ part)) (subst (AllByRecursion (λ x. is_at keys x.0 ≡ true)) same (passed (λ x. is_at keys x.0) (panes q (e ∷ past)))) in
-        filter-firings past e
-        ∙ ap (filter_map (does q past e)) same
-        ∙ filter_map-image (does q past e) (pane_at f) (does q part e) (firing_at f) (panes q (e ∷ part))
-        (all-each (λ x. is_at keys x.0 ≡ true) (λ x. does q past e (pane_at f x) ≡ option_map (firing_at f) (does q part e x)) (panes q (e ∷ part)) (λ x here. does_alike e room of (turns.0 of) x here) each)
-        ∙ ap (map (firing_at f)) (sym (firings_are q part e))
+  told : (past : List Event) → HasRoom q past → Told q (own q) (image past) past (of_keys keys past)
+  told past room =
+      subst (λ (es : List Event). Told q (own q) (image past) es (of_keys keys past)) (whole_is (is_of keys) past)
+      (subst (Told q (own q) (image past) (whole (steps_of keys past) [])) (rest_is (is_of keys) past)
+      (told_at q q.clock.start q.clock.records (is_at keys) (is_said keys) MayPart [] [] 0 lacks (steps_of keys past) (may past room)))
 
-  -- ---- an event of another part
+  pub may_stay : (past : List Event) (e : Event) → HasRoom q (e ∷ past) → is_of keys e ≡ true → MayPart (Stays e ∷ steps_of keys past)
+  may_stay past e room here = ((here, are_of keys past), subst (λ (es : List Event). HasRoom q (e ∷ es)) (sym (whole_is (is_of keys) past)) room)
 
-  -- it puts no record into a place of the keys
-  none_enter : (past : List Event) (e : Event) → is_of keys e ≡ false → (p : Place) → is_at keys p ≡ true → contents q (e ∷ past) p ≡ contents q past p
-  none_enter past e other p here =
-      filter-append (is_there q p) (selection_of q past e) (selected q past)
-      ∙ ap (λ (ds : List Datum). ds ++ contents q past p) (none_there (selection_of q past e) (selects_others q keys f past e other))
-    where
-      none_there : (ds : List Datum) → filter (is_said keys) ds ≡ [] → filter (is_there q p) ds ≡ []
-      none_there [] h = refl
-      none_there (d ∷ ds) h =
-          elim (is_said keys d) as (λ b. is_said keys d ≡ b → cond b (d ∷ filter (is_said keys) ds) (filter (is_said keys) ds) ≡ [] → filter (is_there q p) (d ∷ ds) ≡ []) [
-            | true ↦ λ e k. absurd (let l = ap (λ (xs : List Datum). length xs) k in cc)
-            | false ↦ λ e k. ap (λ (b : Bool). cond b (d ∷ filter (is_there q p) ds) (filter (is_there q p) ds)) (not_there d e) ∙ none_there ds k
-          ] refl h
-        where
-          not_there : (d : Datum) → is_said keys d ≡ false → is_there q p d ≡ false
-          not_there d away =
-              elim (is_there q p d) as (λ b. is_there q p d ≡ b → b ≡ false) [
-                | true ↦ λ k. sym (ap (λ (j : ℕ). keys (Some j)) (same_key d.key p.key (and_parts _ _ k).0) ∙ here) ∙ away
-                | false ↦ λ k. refl
-              ] refl
+  pub may_go : (past : List Event) (e : Event) → HasRoom q (e ∷ past) → is_of keys e ≡ false → MayPart (Goes e ∷ steps_of keys past)
+  may_go past e room other = ((other, are_of keys past), subst (λ (es : List Event). HasRoom q (e ∷ es)) (sym (whole_is (is_of keys) past)) room)
 
-  silent : (past : List Event) (e : Event) → is_of keys e ≡ false → (x : Place × List Datum) → IsPane q (e ∷ past) x → is_at keys x.0 ≡ true → does q past e x ≡ None
-  silent past (Watermark o t) other x is here = absurd (true≢false other)
-  silent past (Record k t vs) other x is here =
-      let e : Event = Record k t vs in
-      let old : x.1 ≡ contents q past x.0 = is.0 ∙ none_enter past e other x.0 here in
-      let none : list_any (λ d. nat_eq d.turn (length past)) x.1 ≡ false =
-      ap (list_any (λ d. nat_eq d.turn (length past))) old ∙ none_now (contents q past x.0) (contents_below q past x.0) in
-      let left : List Datum = unshown_of q past x.0 x.1 in
-      ap (firing_of (length past) x.0 x.1 (firing_set q.mode x.1 left))
-      (by_record q past (λ does. kind_on q does x.0 x.1 left ≡ None) refl (λ _ _ _. ap (λ (b : Bool). cond b (kind_on_record q (mark q past) x.0.end (length left)) None) none) k t vs)
-    where
-      none_now : (ds : List Datum) → AllByRecursion (λ d. d.turn < length past) ds → list_any (λ d. nat_eq d.turn (length past)) ds ≡ false
-      none_now [] h = refl
-      none_now (d ∷ ds) h = λ i. unlike d.turn (length past) h.0 i || none_now ds h.1 i
+  -- where an event is of the part
+  pub turn_of_part : (past : List Event) (e : Event) → HasRoom q (e ∷ past) → is_of keys e ≡ true → Turn q (own q) (image past) past (of_keys keys past) e e
+  turn_of_part past e room here =
+      subst (λ (es : List Event). Turn q (own q) (image past) es (of_keys keys past) e e) (whole_is (is_of keys) past)
+      (subst (λ (es : List Event). Turn q (own q) (image past) (whole (steps_of keys past) []) es e e) (rest_is (is_of keys) past)
+      (turn_at q q.clock.start q.clock.records (is_at keys) (is_said keys) MayPart [] [] 0 lacks e (steps_of keys past) (may_stay past e room here)))
 
-  fires_none : (past : List Event) (e : Event) → is_of keys e ≡ false → filter (is_fired_at keys) (firings q past e) ≡ []
-  fires_none past e other =
-      filter-firings past e ∙ none_given (panes q (e ∷ past)) (each_pane q (e ∷ past))
-    where
-      none_given : (xs : List (Place × List Datum)) → AllByRecursion (IsPane q (e ∷ past)) xs → filter_map (does q past e) (filter (λ x. is_at keys x.0) xs) ≡ []
-      none_given [] each = refl
-      none_given (x ∷ xs) each =
-          elim (is_at keys x.0) as (λ b. is_at keys x.0 ≡ b → filter_map (does q past e) (cond b (x ∷ filter (λ x. is_at keys x.0) xs) (filter (λ x. is_at keys x.0) xs)) ≡ []) [
-            | true ↦ λ here. ap (λ (o : Option Firing). cons_option o (filter_map (does q past e) (filter (λ x. is_at keys x.0) xs))) (silent past e other x each.0 here) ∙ none_given xs each.1
-            | false ↦ λ _. none_given xs each.1
-          ] refl
+  -- all of the part is of the keys
+  pub all_of_part : (past : List Event) (e : Event) → is_of keys e ≡ true → AllAt q (is_at keys) (of_keys keys past) e
+  all_of_part past e here = all_at q (is_at keys) (of_keys keys past) e (panes_own keys q (of_keys keys past) (passed (is_of keys) past)) (panes_own keys q (e ∷ of_keys keys past) (here, passed (is_of keys) past))
 
-  -- where the same was shown, a turn fires for the keys what the part fires
-  fires_by : (past : List Event) (e : Event) → HasRoom q (e ∷ past) → AreTurns keys f (e ∷ past) → ShowsAlike past → filter (is_fired_at keys) (firings q past e) ≡ where_of keys e (map (firing_at f) (firings q (of_keys keys past) e))
-  fires_by past e room turns shown =
-      elim (is_of keys e) as (λ b. is_of keys e ≡ b → filter (is_fired_at keys) (firings q past e) ≡ cond b (map (firing_at f) (firings q (of_keys keys past) e)) []) [
-        | true ↦ λ of. fires_alike past shown e room turns of
-        | false ↦ λ other. fires_none past e other
+  all_fired : (past : List Event) → AllByRecursion (λ e. is_of keys e ≡ true) past → filter (is_fired_at keys) (firings_so_far q past) ≡ firings_so_far q past
+  all_fired [] all = refl
+  all_fired (e ∷ past) all =
+      filter-append (is_fired_at keys) (firings_so_far q past) (firings q past e)
+      ∙ (λ i. all_fired past all.1 i ++ (all_at q (is_at keys) past e (panes_own keys q past all.1) (panes_own keys q (e ∷ past) all)).firings i)
+
+  -- ---- what is held and fires
+
+  -- at the turns of the part
+  abbrev now : List Event → ℕ → ℕ
+  now past = turn [] [] 0 (steps_of keys past)
+
+  pub held_of_part : (past : List Event) → HasRoom q past → filter (λ x. is_at keys x.0) (held q past) ≡ map (pane_at (turn_of keys past)) (held q (of_keys keys past))
+  held_of_part past room =
+      held_alike q (own q) (image past) past (of_keys keys past) (told past room)
+      ∙ ap (map (pane_at (now past))) (live_at q (is_at keys) (of_keys keys past) (panes_own keys q (of_keys keys past) (passed (is_of keys) past)) (mark q (of_keys keys past)))
+      ∙ (λ i. map (pane_at (λ n. turn_is keys past n i)) (held q (of_keys keys past)))
+
+  pub firings_of_part : (past : List Event) (e : Event) → HasRoom q (e ∷ past) → filter (is_fired_at keys) (firings q past e) ≡ where_of keys e (map (firing_at (turn_of keys past)) (firings q (of_keys keys past) e))
+  firings_of_part past e room =
+      let part : List Event = of_keys keys past in
+      elim (is_of keys e) as (λ b. is_of keys e ≡ b → filter (is_fired_at keys) (firings q past e) ≡ cond b (map (firing_at (turn_of keys past)) (firings q part e)) []) [
+        | true ↦ λ here.
+            (turn_of_part past e room here).fired
+            ∙ ap (map (firing_at (now past))) (all_of_part past e here).firings
+            ∙ (λ i. map (firing_at (λ n. turn_is keys past n i)) (firings q part e))
+        | false ↦ λ other. others_none past e other
       ] refl
 
-  -- ---- what is shown
-
-  shows_own_key : (p : Place) → is_at keys p ≡ true → (d : Datum) (g : Firing) → (shows q.shape p g.place && holds d g.contents) ≡ true → is_fired_at keys g ≡ true
-  shows_own_key p here d g h = ap (λ (k : ℕ). keys (Some k)) (sym (shows_key q.shape p g.place (and_parts _ _ h).0)) ∙ here
-
-  shown_now : (past : List Event) (e : Event) → HasRoom q (e ∷ past) → AreTurns keys f (e ∷ past) → ShowsAlike past → (p : Place) → is_at keys p ≡ true → (d : Datum) →
-      list_any (λ g. shows q.shape p g.place && holds (at_turn f d) g.contents) (firings q past e)
-      ≡ list_any (λ g. shows q.shape p g.place && holds d g.contents) (where_of keys e (firings q (of_keys keys past) e))
-  shown_now past e room turns shown p here d =
-      let part : List Event = of_keys keys past in
-      list_any-wider (λ g. shows q.shape p g.place && holds (at_turn f d) g.contents) (is_fired_at keys) (shows_own_key p here (at_turn f d)) (firings q past e)
-      ∙ ap (list_any (λ g. shows q.shape p g.place && holds (at_turn f d) g.contents)) (fires_by past e room turns shown)
-      ∙ elim (is_of keys e) as (λ b. list_any (λ g. shows q.shape p g.place && holds (at_turn f d) g.contents) (cond b (map (firing_at f) (firings q part e)) []) ≡ list_any (λ g. shows q.shape p g.place && holds d g.contents) (cond b (firings q part e) [])) [
-        | true ↦
-            list_any-map (λ g. shows q.shape p g.place && holds (at_turn f d) g.contents) (firing_at f) (firings q part e)
-            ∙ list_any-each (λ g. shows q.shape p g.place && holds (at_turn f d) (map (at_turn f) g.contents)) (λ g. shows q.shape p g.place && holds d g.contents) (firings q part e)
-            (all-any (λ g. (shows q.shape p g.place && holds (at_turn f d) (map (at_turn f) g.contents)) ≡ (shows q.shape p g.place && holds d g.contents)) (λ g. ap (λ (b : Bool). shows q.shape p g.place && b) (holds_turned f rises d g.contents)) (firings q part e))
-        | false ↦ refl
-      ]
-
-  pub shows_alike : (past : List Event) → HasRoom q past → AreTurns keys f past → ShowsAlike past
-  shows_alike [] room turns p here d = refl
-  shows_alike (e ∷ past) room turns p here d =
-      let part : List Event = of_keys keys past in
-      (λ i. shows_alike past room.1 turns.1 p here d i || shown_now past e room turns (shows_alike past room.1 turns.1) p here d i)
-      ∙ elim (is_of keys e) as (λ b. (is_shown q part p d || list_any (λ g. shows q.shape p g.place && holds d g.contents) (cond b (firings q part e) [])) ≡ is_shown q (cond b (e ∷ part) part) p d) [
-        | true ↦ refl
-        | false ↦ or-false (is_shown q part p d)
-      ]
-
-  -- what a turn fires for the keys is what the part fires, on a turn of an event of another nothing
-  pub firings_of_part : (past : List Event) (e : Event) → HasRoom q (e ∷ past) → AreTurns keys f (e ∷ past) → filter (is_fired_at keys) (firings q past e) ≡ where_of keys e (map (firing_at f) (firings q (of_keys keys past) e))
-  firings_of_part past e room turns = fires_by past e room turns (shows_alike past room.1 turns.1)
-
-  pub all_firings_of_part : (past : List Event) → HasRoom q past → AreTurns keys f past → filter (is_fired_at keys) (firings_so_far q past) ≡ map (firing_at f) (firings_so_far q (of_keys keys past))
-  all_firings_of_part [] room turns = refl
-  all_firings_of_part (e ∷ past) room turns =
-      let part : List Event = of_keys keys past in
-      filter-append (is_fired_at keys) (firings_so_far q past) (firings q past e)
-      ∙ (λ i. all_firings_of_part past room.1 turns.1 i ++ firings_of_part past e room turns i)
-      ∙ elim (is_of keys e) as (λ b. map (firing_at f) (firings_so_far q part) ++ cond b (map (firing_at f) (firings q part e)) [] ≡ map (firing_at f) (firings_so_far q (cond b (e ∷ part) part))) [
-        | true ↦ sym (map-append (firing_at f) (firings_so_far q part) (firings q part e))
-        | false ↦ append-nil (map (firing_at f) (firings_so_far q part))
-      ]
+  pub fired_count : (past : List Event) → HasRoom q past → length (firings_so_far q (of_keys keys past)) ≡ length (filter (is_fired_at keys) (firings_so_far q past))
+  fired_count past room =
+      let part : List Firing = firings_so_far q (of_keys keys past) in
+      sym (ap (λ (fs : List Firing). length fs) ((told past room).fired ∙ ap (map (firing_at (now past))) (all_fired (of_keys keys past) (passed (is_of keys) past))) ∙ length_each (firing_at (now past)) part)

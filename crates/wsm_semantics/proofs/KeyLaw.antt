@@ -4,20 +4,18 @@ use Rattle.std.proofs.lemmas.List.Sorted.{IsPermutation-refl}
 use Rattle.std.specs.Prelude.{IsPermutation}
 use Rattle.wsm_semantics.specs.Query.{Query}
 use Rattle.wsm_semantics.specs.Order.{said_by, IgnoresOrder}
-use Rattle.wsm_semantics.specs.ByKey.{Keys, at_turn, turn_of, IgnoresTurns, ByKey}
+use Rattle.wsm_semantics.specs.ByKey.{Keys, at_turn, IgnoresTurns, ByKey}
 use Rattle.wsm_semantics.proofs.Each.{map-map}
 use Rattle.wsm_semantics.proofs.KeyParts.{mark_of_part, verdict_of_part, room_of_part}
-use Rattle.wsm_semantics.proofs.KeyTurns.{are_turns, next_turn, rising-turn_of}
-use Rattle.wsm_semantics.proofs.KeyPanes.{held_of_part}
-use Rattle.wsm_semantics.proofs.KeyFirings.{firings_of_part}
+use Rattle.wsm_semantics.proofs.KeyFirings.{firings_of_part, held_of_part}
 
 pub by_key : (q : Query) (keys : Keys) → ByKey q keys
 by_key q keys = record {
   room = room_of_part q keys;
   mark = mark_of_part q keys;
   verdict = verdict_of_part q keys;
-  held = λ past room. held_of_part q keys (turn_of keys past) past room (are_turns keys past);
-  firings = λ past e room. firings_of_part q keys (turn_of keys past) (rising-turn_of keys past) past e room (next_turn keys e past);
+  held = λ past room. held_of_part q keys past room;
+  firings = λ past e room. firings_of_part q keys past e room;
 }
 
 pub ignores_turns : (q : Query) → IgnoresOrder q → IgnoresTurns q

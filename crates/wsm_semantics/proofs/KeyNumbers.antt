@@ -9,11 +9,9 @@ use Rattle.wsm_admission.specs.declared.verdict.Refusal.TheVariants as refusal
 use Rattle.wsm_admission.specs.Clock.{mark_at, marks_of, watermark_refusal, is_time, admitted_count, admitted_with, late_count, late_with, refused_count, refused_with}
 use Rattle.wsm_semantics.specs.Query.{Query, verdict_on}
 use Rattle.wsm_semantics.specs.Firings.{Firing, firings_so_far}
-use Rattle.wsm_semantics.specs.ByKey.{Keys, is_of, of_keys, HasRoom, turn_of, firing_at, EachOnce, sum_of_parts, no_keys, AddsUp, AddsUpButWatermarks, NumbersAddUp}
-use Rattle.wsm_semantics.proofs.Lists.{length_each}
+use Rattle.wsm_semantics.specs.ByKey.{Keys, is_of, of_keys, HasRoom, EachOnce, sum_of_parts, no_keys, AddsUp, AddsUpButWatermarks, NumbersAddUp}
 use Rattle.wsm_semantics.proofs.KeyParts.{verdict_of_part}
-use Rattle.wsm_semantics.proofs.KeyTurns.{rising-turn_of, are_turns}
-use Rattle.wsm_semantics.proofs.KeyFirings.{is_fired_at, all_firings_of_part}
+use Rattle.wsm_semantics.proofs.KeyFirings.{fired_count, is_fired_at}
 
 sum_alike : {A : Type 0} (f g : A → ℕ) → ((x : A) → f x ≡ g x) → (xs : List A) → sum_by f xs ≡ sum_by g xs
 sum_alike f g same [] = refl
@@ -202,7 +200,7 @@ module _ (q : Query) (parts : List Keys) (each : EachOnce parts) where
   fired_add_up : AddsUp q parts (λ part. length (firings_so_far q part))
   fired_add_up past room =
       sum_alike (λ keys. length (firings_so_far q (of_keys keys past))) (λ keys. length (filter (is_fired_at keys) (firings_so_far q past)))
-      (λ keys. sym (ap (λ (fs : List Firing). length fs) (all_firings_of_part q keys (turn_of keys past) (rising-turn_of keys past) past room (are_turns keys past)) ∙ length_each (firing_at (turn_of keys past)) (firings_so_far q (of_keys keys past)))) parts
+      (λ keys. fired_count q keys past room) parts
       ∙ in_one_part (firings_so_far q past)
 
   pub numbers_add_up : NumbersAddUp q parts

@@ -1,9 +1,9 @@
 -- The relation of a history and of its parts by keys: that of the whole has each row as often as the parts have
 -- it together, and so gains and loses what they do.
-use Rattle.std.proofs.Common.{◌≡◌, ℕ, suc, ◌+◌, ◌-◌, ◌*◌, Bool, true, false, cond, not, List, [], ◌∷◌, ◌++◌, map, length, ℤ, Option, Some, None, refl, sym, ap, subst, ◌∙◌, arith}
+use Rattle.std.proofs.Common.{◌≡◌, ℕ, suc, ◌+◌, ◌-◌, ◌*◌, Bool, true, false, cond, not, List, [], ◌∷◌, ◌++◌, length, ℤ, Option, Some, None, refl, sym, ap, ◌∙◌, arith}
 use Rattle.std.proofs.lemmas.Bool.{true≢false}
-use Rattle.std.specs.Prelude.{◌≢◌, filter, filter_map, flat_map, int_lt, option_and_then, option_map}
-use Rattle.std.specs.List.{AllByRecursion, cons_option}
+use Rattle.std.specs.Prelude.{◌≢◌, filter, filter_map, flat_map, int_lt}
+use Rattle.std.specs.List.{cons_option}
 use Rattle.wsm_record.specs.declared.event.Value.{Value}
 use Rattle.wsm_record.specs.declared.cell.Cell.{Cell}
 use Rattle.wsm_record.specs.declared.words.Form.{Form}
@@ -13,25 +13,19 @@ use Rattle.wsm_windows.specs.declared.place.Place.{Place}
 use Rattle.wsm_semantics.specs.Query.{Datum, Query, mark, raises}
 use Rattle.wsm_semantics.specs.Panes.{held}
 use Rattle.wsm_semantics.specs.declared.out_row.OutRow.{OutRow}
-use Rattle.wsm_semantics.specs.Firings.{Firing, firings_so_far, pane_rows}
-use Rattle.wsm_semantics.specs.StandingFirings.{standing}
+use Rattle.wsm_semantics.specs.Firings.{firings_so_far, pane_rows}
 use Rattle.wsm_semantics.specs.Retractions.{retract_rows}
 use Rattle.wsm_semantics.specs.Relation.{relation_at, relation, sorted_rows, difference, stream_rows, chosen_rows}
 use Rattle.wsm_semantics.specs.RowCounts.{IsInOrder, count_of}
-use Rattle.wsm_semantics.specs.ByKey.{Keys, others, of_keys, HasRoom, IgnoresTurns, pane_at, firing_at, is_at, turn_of, EachOnce, of_parts, netted, gains, losses, rows_of_stream, StreamsWrite, RelationsAddUp, AreNetted, PartsAddUp}
-use Rattle.wsm_semantics.proofs.Lists.{all-each}
-use Rattle.wsm_semantics.proofs.Each.{passed, filter_map-map, filter_map-each}
+use Rattle.wsm_semantics.specs.ByKey.{Keys, others, of_keys, HasRoom, IgnoresTurns, is_at, EachOnce, of_parts, netted, gains, losses, rows_of_stream, StreamsWrite, RelationsAddUp, AreNetted, PartsAddUp}
 use Rattle.wsm_semantics.proofs.Effects.{stays_down}
 use Rattle.wsm_semantics.proofs.KeyParts.{mark_of_part}
-use Rattle.wsm_semantics.proofs.KeyTurns.{rising-turn_of, next_turn}
-use Rattle.wsm_semantics.proofs.KeyPanes.{held_of_part}
-use Rattle.wsm_semantics.proofs.KeyFirings.{all-of_map, is_fired_at, all_firings_of_part}
-use Rattle.wsm_semantics.proofs.KeyStanding.{standing_alone}
+use Rattle.wsm_semantics.proofs.StepTurns.{turn}
+use Rattle.wsm_semantics.proofs.KeyTurns.{steps_of}
+use Rattle.wsm_semantics.proofs.KeyFirings.{all_of_part, image, turn_of_part}
+use Rattle.wsm_semantics.proofs.Moves.{own}
+use Rattle.wsm_semantics.proofs.ImageRows.{rows_standing, standing_row}
 use Rattle.wsm_semantics.proofs.RowBags.{once, count-append, count-sorted_rows, count-difference, sorted_rows-in_order, difference-in_order, one_list}
-
--- the row of what stands for a pane, by all firings so far
-abbrev standing_row : Query → List Firing → Place × List Datum → Option (List Cell)
-standing_row q fs x = option_and_then (λ f. q.row f.place.key f.fired) (standing q fs x.0 x.1)
 
 -- ---- rows of parts
 
@@ -103,29 +97,14 @@ more_and_less r now before (x ∷ xs) =
     omega arith
 
 module _ (q : Query) (ignores : IgnoresTurns q) where
-  row_turned : (f : ℕ → ℕ) (o : Option Firing) → option_and_then (λ g. q.row g.place.key g.fired) (option_map (firing_at f) o) ≡ option_and_then (λ g. q.row g.place.key g.fired) o
-  row_turned f None = refl
-  row_turned f (Some g) = ignores f g.place.key g.fired
-
-  -- the rows that stand at a watermark for panes of the keys are those of the part
-  rows_of_part : (keys : Keys) (past : List Event) (o : Option ℕ) (t : ℤ) → HasRoom q (Watermark o t ∷ past) →
+  -- the rows that stand for panes of the keys, where a watermark rises, are those of the part
+  rows_of_part : (keys : Keys) (past : List Event) (o : Option ℕ) (t : ℤ) → HasRoom q (Watermark o t ∷ past) → raises q past (Watermark o t) ≡ true →
       filter_map (standing_row q (firings_so_far q (Watermark o t ∷ past))) (filter (λ x. is_at keys x.0) (held q past))
       ≡ filter_map (standing_row q (firings_so_far q (Watermark o t ∷ of_keys keys past))) (held q (of_keys keys past))
-  rows_of_part keys past o t room =
+  rows_of_part keys past o t room up =
       let w : Event = Watermark o t in
-      let f : ℕ → ℕ = turn_of keys past in
-      let fs : List Firing = firings_so_far q (w ∷ past) in
-      let gs : List Firing = firings_so_far q (w ∷ of_keys keys past) in
-      let ys : List (Place × List Datum) = held q (of_keys keys past) in
-      let same : filter (λ x. is_at keys x.0) (held q past) ≡ map (pane_at f) ys = held_of_part q keys f past room.1 (next_turn keys w past).1 in
-      let alone : filter (is_fired_at keys) fs ≡ map (firing_at f) gs = all_firings_of_part q keys f (rising-turn_of keys past) (w ∷ past) room (next_turn keys w past) in
-      let each : AllByRecursion (λ x. is_at keys x.0 ≡ true) ys =
-      all-of_map (λ x. is_at keys x.0 ≡ true) (pane_at f) ys (subst (AllByRecursion (λ x. is_at keys x.0 ≡ true)) same (passed (λ x. is_at keys x.0) (held q past))) in
-      ap (filter_map (standing_row q fs)) same
-      ∙ filter_map-map (standing_row q fs) (pane_at f) ys
-      ∙ filter_map-each (λ x. standing_row q fs (pane_at f x)) (standing_row q gs) ys
-      (all-each (λ x. is_at keys x.0 ≡ true) (λ x. standing_row q fs (pane_at f x) ≡ standing_row q gs x) ys
-      (λ x here. ap (option_and_then (λ g. q.row g.place.key g.fired)) (standing_alone q keys f (rising-turn_of keys past) fs gs alone x.0 here x.1) ∙ row_turned f (standing q gs x.0 x.1)) each)
+      rows_standing q (own q) (image q keys past) (ignores (turn [] [] 0 (steps_of keys past))) past (of_keys keys past) w w (turn_of_part q keys past w room refl) up
+      ∙ ap (filter_map (standing_row q (firings_so_far q (w ∷ of_keys keys past)))) (all_of_part q keys past w refl).held
 
   -- ---- the relation
 
@@ -152,12 +131,12 @@ module _ (q : Query) (ignores : IgnoresTurns q) where
       ]
 
   module _ (parts : List Keys) (each : EachOnce parts) where
-    at_watermark : (r : List Cell) (past : List Event) (o : Option ℕ) (t : ℤ) → HasRoom q (Watermark o t ∷ past) →
+    at_watermark : (r : List Cell) (past : List Event) (o : Option ℕ) (t : ℤ) → HasRoom q (Watermark o t ∷ past) → raises q past (Watermark o t) ≡ true →
         count_of r (of_parts parts past (λ part. relation_at q part (Watermark o t))) ≡ count_of r (relation_at q past (Watermark o t))
-    at_watermark r past o t room =
+    at_watermark r past o t room up =
         let g : Place × List Datum → Option (List Cell) = standing_row q (firings_so_far q (Watermark o t ∷ past)) in
         count-alike r (λ keys. relation_at q (of_keys keys past) (Watermark o t)) (λ keys. filter_map g (filter (λ x. is_at keys x.0) (held q past)))
-        (λ keys. count-sorted_rows r (filter_map (standing_row q (firings_so_far q (Watermark o t ∷ of_keys keys past))) (held q (of_keys keys past))) ∙ ap (count_of r) (sym (rows_of_part keys past o t room))) parts
+        (λ keys. count-sorted_rows r (filter_map (standing_row q (firings_so_far q (Watermark o t ∷ of_keys keys past))) (held q (of_keys keys past))) ∙ ap (count_of r) (sym (rows_of_part keys past o t room up))) parts
         ∙ all_in_parts r g (λ keys x. is_at keys x.0) parts (λ x. each (Some x.0.key)) (held q past)
         ∙ sym (count-sorted_rows r (filter_map g (held q past)))
 
@@ -171,10 +150,10 @@ module _ (q : Query) (ignores : IgnoresTurns q) where
         let w : Event = Watermark o t in
         count-alike r (λ keys. relation q (w ∷ of_keys keys past)) (λ keys. cond (raises q past w) (relation_at q (of_keys keys past) w) (relation q (of_keys keys past)))
         (λ keys. ap (λ (b : Bool). count_of r (cond b (relation_at q (of_keys keys past) w) (relation q (of_keys keys past)))) (raises_alike keys past o t)) parts
-        ∙ elim (raises q past w) as (λ b. count_of r (flat_map (λ keys. cond b (relation_at q (of_keys keys past) w) (relation q (of_keys keys past))) parts) ≡ count_of r (cond b (relation_at q past w) (relation q past))) [
-          | true ↦ at_watermark r past o t room
-          | false ↦ all_have r past room.1
-        ]
+        ∙ elim (raises q past w) as (λ b. raises q past w ≡ b → count_of r (flat_map (λ keys. cond b (relation_at q (of_keys keys past) w) (relation q (of_keys keys past))) parts) ≡ count_of r (cond b (relation_at q past w) (relation q past))) [
+          | true ↦ λ up. at_watermark r past o t room up
+          | false ↦ λ _. all_have r past room.1
+        ] refl
 
     relation_together : RelationsAddUp q parts
     relation_together past room =

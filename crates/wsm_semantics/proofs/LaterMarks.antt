@@ -15,8 +15,7 @@ use Rattle.wsm_semantics.specs.Query.{Query, datum, mark, raises, verdict_on, is
 use Rattle.wsm_semantics.specs.ByKey.{HasRoom, at_turn}
 use Rattle.wsm_semantics.specs.FromWatermark.{begun_at, Step, Stays, Goes, whole, rest, Times, LeavesOut}
 use Rattle.wsm_semantics.proofs.Effects.{effect_with, selects-with, rises-with}
-use Rattle.wsm_semantics.proofs.KeyParts.{first_rule}
-use Rattle.wsm_semantics.proofs.KeyRecords.{either_number}
+use Rattle.wsm_semantics.proofs.KeyParts.{either_number, first_rule}
 
 pub marks_each : (f g : ℕ → ℤ) (a n : ℕ) → ((s : ℕ) → s < a + n → f s ≡ g s) → map f (range_with_len a n) ≡ map g (range_with_len a n)
 marks_each f g a zero same = refl

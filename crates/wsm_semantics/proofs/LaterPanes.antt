@@ -1,12 +1,10 @@
 -- The panes whose windows begin after some time of their key hang on the records after it alone.
-use Rattle.std.proofs.Common.{◌≡◌, ℕ, Bool, true, false, ◌&&◌, ◌||◌, cond, List, [], ◌∷◌, ◌++◌, map, ℤ, pos, ◌≤ℤ◌, ◌<ℤ◌, Option, Some, None, refl, sym, ap, subst, ◌∙◌, arith}
+use Rattle.std.proofs.Common.{◌≡◌, ℕ, Bool, true, false, ◌&&◌, cond, List, ◌∷◌, ◌++◌, map, ℤ, pos, ◌≤ℤ◌, ◌<ℤ◌, refl, sym, ap, subst, ◌∙◌, arith}
 use Rattle.std.proofs.lemmas.Int.{ints}
 use Rattle.std.proofs.lemmas.Bool.{and_parts}
 use Rattle.std.proofs.Math.Bool.{and-false}
-use Rattle.std.specs.Prelude.{filter, flat_map, int_le, int_lt, nat_eq}
+use Rattle.std.specs.Prelude.{filter, int_le, int_lt, nat_eq}
 use Rattle.std.specs.List.{AllByRecursion}
-use Rattle.std.specs.Ordering.{eq_by_cmp}
-use Rattle.std.specs.FinMap.Entries.{same_entries, find-where_key, is_sorted-where_key}
 use Rattle.wsm_record.specs.Event.{Event}
 use Rattle.wsm_windows.specs.declared.window.Window.{Window}
 use Rattle.wsm_windows.specs.declared.window.Shape.{Shape}
@@ -14,25 +12,22 @@ use Rattle.wsm_windows.specs.declared.window.Shape.TheVariants.{Fixed, Sliding, 
 use Rattle.wsm_windows.specs.Windows.{IsShape, has_inside}
 use Rattle.wsm_windows.specs.Life.{is_live, live_windows_of}
 use Rattle.wsm_windows.specs.declared.place.Place.{Place}
-use Rattle.wsm_windows.specs.Places.{place_cmp, at, window_of}
-use Rattle.wsm_windows.proofs.Places.{places_total, places_exact}
-use Rattle.wsm_semantics.specs.Query.{Datum, Query, Effect, Selects, Rises, Nothing, effect_of, mark, selected, selection}
+use Rattle.wsm_windows.specs.Places.{at, window_of}
+use Rattle.wsm_semantics.specs.Query.{Datum, Query, Effect, Selects, Rises, Nothing, effect_of, selected, selection}
 use Rattle.wsm_semantics.specs.Sessions.{sessions}
-use Rattle.wsm_semantics.specs.Panes.{of_key, is_there, is_live_at, panes, held}
-use Rattle.wsm_semantics.specs.ByKey.{pane_at}
-use Rattle.wsm_semantics.specs.FromWatermark.{begun_at, Step, Times, whole, rest, LeavesOut, BeginAlike, begins_after, is_after, is_beyond, is_beside, PartsNoSession}
-use Rattle.wsm_semantics.proofs.Lists.{all-each, filter_within}
+use Rattle.wsm_semantics.specs.Panes.{of_key}
+use Rattle.wsm_semantics.specs.FromWatermark.{Times, begins_after, is_after, is_beyond, is_beside, PartsNoSession}
+use Rattle.wsm_semantics.proofs.Lists.{all-each}
 use Rattle.wsm_semantics.proofs.Decided.{less_than, less_up_to}
-use Rattle.wsm_semantics.proofs.Tables.{among, find-with_contents, is_sorted-with_contents}
-use Rattle.wsm_semantics.proofs.Each.{same_key, passed, filter-each, filter_swap, filter-map, list_any-append}
+use Rattle.wsm_semantics.proofs.Tables.{among}
+use Rattle.wsm_semantics.proofs.Each.{same_key, passed, filter-each, filter_swap, filter-map}
 use Rattle.wsm_semantics.proofs.Turns.{inside_there}
-use Rattle.wsm_semantics.proofs.PanesOrder.{contents_of, panes_of}
 use Rattle.wsm_semantics.proofs.SessionTimes.{inside_is}
 use Rattle.wsm_semantics.proofs.SessionPlaces.{other_key, among-passing, times_of, sessions_of, places-sessions}
 use Rattle.wsm_semantics.proofs.KeptLaw.{gap_is_long}
-use Rattle.wsm_semantics.proofs.KeyPanes.{placed, panes_turned}
-use Rattle.wsm_semantics.proofs.LaterMarks.{mark_of_steps}
-use Rattle.wsm_semantics.proofs.LaterTurns.{AreTurns, is_new, selected_of_steps, Rooms}
+use Rattle.wsm_semantics.proofs.MovedPanes.{among_new, placed}
+use Rattle.wsm_semantics.proofs.Counted.{Covers, StandNew}
+use Rattle.wsm_semantics.proofs.LaterTurns.{is_new}
 use Rattle.wsm_semantics.proofs.LaterSessions.{begins_late, begins_beyond, AreBeside, is_past, late-sessions, beyond-sessions, were_beside}
 
 -- ---- where windows begin
@@ -67,10 +62,6 @@ beyond_lates x = record {
 past_it : (x start t : ℤ) → x <ℤ start → start ≤ℤ t → int_lt x t ≡ true
 past_it x start t h k = grind (arith, ints)
 
--- the places of such windows are those of the records after the times
-abbrev pub Covers : Query → Times → (Place → Bool) → List Datum → Type 0
-Covers q x late ds = (p : Place) → late p ≡ true → among p (placed q.shape q.clock.lateness (filter (is_new x) ds) (filter (is_new x) ds)) ≡ among p (placed q.shape q.clock.lateness ds ds)
-
 -- ---- windows that don't merge
 
 outside : (x t start end : ℤ) → int_lt x t ≡ false → int_lt x start ≡ true → (int_le start t && int_lt t end) ≡ false
@@ -90,29 +81,16 @@ module _ (x : Times) where
         | false ↦ λ apart. other_key p d.key (filter (λ w. is_live w l d.mark) (filter (has_inside d.time) ws)) apart
       ] refl
 
-  -- places by what each record has alone
-  among_given : (given : Datum → List Place) (p : Place) → ((d : Datum) → is_new x d ≡ false → among p (given d) ≡ false) → (ds : List Datum) →
-      among p (flat_map given (filter (is_new x) ds)) ≡ among p (flat_map given ds)
-  among_given given p none [] = refl
-  among_given given p none (d ∷ ds) =
-      let same : among p (flat_map given (filter (is_new x) ds)) ≡ among p (flat_map given ds) = among_given given p none ds in
-      elim (is_new x d) as (λ b. is_new x d ≡ b → among p (flat_map given (cond b (d ∷ filter (is_new x) ds) (filter (is_new x) ds))) ≡ among p (given d ++ flat_map given ds)) [
-        | true ↦ λ _.
-            list_any-append (eq_by_cmp place_cmp p) (given d) (flat_map given (filter (is_new x) ds))
-            ∙ ap (λ (b : Bool). among p (given d) || b) same
-            ∙ sym (list_any-append (eq_by_cmp place_cmp p) (given d) (flat_map given ds))
-        | false ↦ λ old.
-            same
-            ∙ sym (ap (λ (b : Bool). b || among p (flat_map given ds)) (none d old))
-            ∙ sym (list_any-append (eq_by_cmp place_cmp p) (given d) (flat_map given ds))
-      ] refl
-
   among_fixed : (size l : ℤ) (p : Place) → int_lt (x p.key) p.start ≡ true → (ds : List Datum) → among p (placed (Fixed size) l (filter (is_new x) ds) (filter (is_new x) ds)) ≡ among p (placed (Fixed size) l ds ds)
-  among_fixed size l p late ds = among_given (λ d. map (at d.key) (live_windows_of (Fixed size) d.time l d.mark)) p (λ d old. none_late p late d old l _) ds
+  among_fixed size l p late ds =
+      let given : Datum → List Place = λ d. map (at d.key) (live_windows_of (Fixed size) d.time l d.mark) in
+      among_new (is_new x) p given given (λ d _. refl) (λ d old. none_late p late d old l _) ds
 
   among_sliding : (size period l : ℤ) (p : Place) → int_lt (x p.key) p.start ≡ true → (ds : List Datum) →
       among p (placed (Sliding size period) l (filter (is_new x) ds) (filter (is_new x) ds)) ≡ among p (placed (Sliding size period) l ds ds)
-  among_sliding size period l p late ds = among_given (λ d. map (at d.key) (live_windows_of (Sliding size period) d.time l d.mark)) p (λ d old. none_late p late d old l _) ds
+  among_sliding size period l p late ds =
+      let given : Datum → List Place = λ d. map (at d.key) (live_windows_of (Sliding size period) d.time l d.mark) in
+      among_new (is_new x) p given given (λ d _. refl) (λ d old. none_late p late d old l _) ds
 
   -- ---- sessions
 
@@ -146,7 +124,7 @@ after_shape x (Fixed size) l ok ds p late = among_fixed x size l p late ds
 after_shape x (Sliding size period) l ok ds p late = among_sliding x size period l p late ds
 after_shape x (Session gap) l ok ds p late = among_sessions x gap ok.period_low l p (begins_late gap ok.period_low (x p.key)) late ds (late-sessions gap ok.period_low (x p.key) (times_of gap ds p.key))
 
-pub after_covers : (q : Query) → IsShape q.shape → (x : Times) (ds : List Datum) → Covers q x (is_after q x) ds
+pub after_covers : (q : Query) → IsShape q.shape → (x : Times) (ds : List Datum) → Covers q (is_after q x) (is_new x) ds
 after_covers q ok x ds p late = after_shape x q.shape q.clock.lateness ok ds p late
 
 -- ---- sessions that a time doesn't part
@@ -155,7 +133,7 @@ after_covers q ok x ds p late = after_shape x q.shape q.clock.lateness ok ds p l
 abbrev pub PartNone : Query → Times → List Datum → Type 0
 PartNone q x ds = (gap : ℤ) → q.shape ≡ Session gap → (key : ℕ) → AllByRecursion (λ w. is_beside gap (x key) w ≡ true) (sessions gap (times_of gap ds key))
 
-pub beyond_covers : (q : Query) → IsShape q.shape → (x : Times) (ds : List Datum) → PartNone q x ds → Covers q x (is_beyond x) ds
+pub beyond_covers : (q : Query) → IsShape q.shape → (x : Times) (ds : List Datum) → PartNone q x ds → Covers q (is_beyond x) (is_new x) ds
 beyond_covers q ok x ds none p late = of_shape q.shape refl where
   of_shape : (shape : Shape) → q.shape ≡ shape → among p (placed q.shape q.clock.lateness (filter (is_new x) ds) (filter (is_new x) ds)) ≡ among p (placed q.shape q.clock.lateness ds ds)
   of_shape (Fixed size) is = subst (λ (s : Shape). among p (placed s q.clock.lateness (filter (is_new x) ds) (filter (is_new x) ds)) ≡ among p (placed s q.clock.lateness ds ds)) (sym is) (among_fixed x size q.clock.lateness p late ds)
@@ -178,66 +156,10 @@ before_effect gap long t key ds (Selects d) h =
 pub parted_none : (q : Query) → IsShape q.shape → (x : Times) (past : List Event) (e : Event) → PartsNoSession q x (e ∷ past) → PartsNoSession q x past
 parted_none q ok x past e none gap is key = before_effect gap (gap_is_long q gap is ok) (x key) key (selected q past) (effect_of q past e) (none gap is key)
 
--- ---- panes
+-- ---- records there
 
-module _ (q : Query) (x : Times) (late : Place → Bool) (lates : Lates x late) where
-  -- a record of such a place comes after the time
-  pub new_there : (p : Place) → late p ≡ true → (d : Datum) → is_there q p d ≡ true → is_new x d ≡ true
-  new_there p h d there =
-      ap (λ (k : ℕ). int_lt (x k) d.time) (same_key d.key p.key (and_parts _ _ there).0)
-      ∙ past_it (x p.key) p.start d.time (lates.past p h) (inside_is d.time (window_of p) (inside_there q p d there)).0
-
-  contents_new : (p : Place) → late p ≡ true → (ds : List Datum) → contents_of q (filter (is_new x) ds) p ≡ contents_of q ds p
-  contents_new p h ds = filter_within (is_there q p) (is_new x) (new_there p h) ds
-
-  pub panes_new : (ds : List Datum) → Covers q x late ds → filter (λ e. late e.0) (panes_of q ds) ≡ filter (λ e. late e.0) (panes_of q (filter (is_new x) ds))
-  panes_new ds covers =
-      let l : ℤ = q.clock.lateness in
-      let new : List Datum = filter (is_new x) ds in
-      same_entries place_cmp places_total places_exact (filter (λ e. late e.0) (panes_of q ds)) (filter (λ e. late e.0) (panes_of q new))
-      (is_sorted-where_key place_cmp late (panes_of q ds) (is_sorted-with_contents (contents_of q ds) (placed q.shape l ds ds)))
-      (is_sorted-where_key place_cmp late (panes_of q new) (is_sorted-with_contents (contents_of q new) (placed q.shape l new new)))
-      (λ p.
-      find-where_key place_cmp late p (λ r tie. ap late (sym (places_exact p r tie))) (panes_of q ds)
-      ∙ ap (λ (o : Option (List Datum)). cond (late p) o None) (find-with_contents (contents_of q ds) p (placed q.shape l ds ds))
-      ∙ elim (late p) as (λ b. late p ≡ b → cond b (cond (among p (placed q.shape l ds ds)) (Some (contents_of q ds p)) None) None ≡ cond b (cond (among p (placed q.shape l new new)) (Some (contents_of q new p)) None) None) [
-        | true ↦ λ h. sym (λ i. cond (covers p h i) (Some (contents_new p h ds i)) None)
-        | false ↦ λ _. refl
-      ] refl
-      ∙ sym (ap (λ (o : Option (List Datum)). cond (late p) o None) (find-with_contents (contents_of q new) p (placed q.shape l new new)))
-      ∙ sym (find-where_key place_cmp late p (λ r tie. ap late (sym (places_exact p r tie))) (panes_of q new)))
-
--- ---- of both
-
--- in both
-abbrev pub Covered : Query → ℤ → ℤ → Times → (Place → Bool) → List Event → List Event → List Step → Type 0
-Covered q start records x late older other steps = Covers q x late (selected q (whole steps older)) × Covers (begun_at start records q) x late (selected (begun_at start records q) (rest steps other))
-
-module _ (q : Query) (start records : ℤ) (x : Times) (late : Place → Bool) (lates : Lates x late) (older other : List Event) (longer : ℕ) (begun : BeginAlike q start records x older other longer) where
-  abbrev anew : Query
-  anew = begun_at start records q
-
-  module _ (f : ℕ → ℕ) (steps : List Step) (out : LeavesOut x steps) (covered : Covered q start records x late older other steps) (rooms : Rooms q start records older other steps) (turns : AreTurns older other longer f steps) where
-    pub panes_of_steps : filter (λ e. late e.0) (panes q (whole steps older)) ≡ map (pane_at f) (filter (λ e. late e.0) (panes anew (rest steps other)))
-    panes_of_steps =
-        let new : List Datum = filter (is_new x) (selected anew (rest steps other)) in
-        panes_new q x late lates (selected q (whole steps older)) covered.0
-        ∙ ap (λ (ds : List Datum). filter (λ e. late e.0) (panes_of q ds)) (selected_of_steps q start records x older other longer begun f steps out rooms turns)
-        ∙ ap (filter (λ e. late e.0)) (panes_turned f q new)
-        ∙ filter-map (pane_at f) (λ e. late e.0) (panes_of q new)
-        ∙ ap (map (pane_at f)) (sym (panes_new anew x late lates (selected anew (rest steps other)) covered.1))
-
-    -- those that live at a mark
-    pub live_of_steps : (w : ℤ) → filter (λ e. late e.0) (filter (λ e. is_live_at q w e.0) (panes q (whole steps older)))
-        ≡ map (pane_at f) (filter (λ e. late e.0) (filter (λ e. is_live_at q w e.0) (panes anew (rest steps other))))
-    live_of_steps w =
-        let ps : List (Place × List Datum) = panes anew (rest steps other) in
-        filter_swap (λ e. late e.0) (λ e. is_live_at q w e.0) (panes q (whole steps older))
-        ∙ ap (filter (λ e. is_live_at q w e.0)) panes_of_steps
-        ∙ filter-map (pane_at f) (λ e. is_live_at q w e.0) (filter (λ e. late e.0) ps)
-        ∙ ap (map (pane_at f)) (filter_swap (λ e. is_live_at q w e.0) (λ e. late e.0) ps)
-
-    pub held_of_steps : filter (λ e. late e.0) (held q (whole steps older)) ≡ map (pane_at f) (filter (λ e. late e.0) (held anew (rest steps other)))
-    held_of_steps =
-        live_of_steps (mark q (whole steps older))
-        ∙ ap (λ (w : ℤ). map (pane_at f) (filter (λ e. late e.0) (filter (λ e. is_live_at q w e.0) (panes anew (rest steps other))))) (sym (mark_of_steps q start records x older other begun.marks steps out))
+-- a record of such a place comes after the time
+pub new_there : (q : Query) (x : Times) (late : Place → Bool) → Lates x late → StandNew q late (is_new x)
+new_there q x late lates p h d there =
+    ap (λ (k : ℕ). int_lt (x k) d.time) (same_key d.key p.key (and_parts _ _ there).0)
+    ∙ past_it (x p.key) p.start d.time (lates.past p h) (inside_is d.time (window_of p) (inside_there q p d there)).0

@@ -27,7 +27,8 @@ use Rattle.wsm_semantics.proofs.SessionPlaces.{times_of}
 use Rattle.wsm_semantics.proofs.KeptTurns.{prompt}
 use Rattle.wsm_semantics.proofs.KeptLaw.{gap_is_long}
 use Rattle.wsm_semantics.proofs.WindowEnds.{ended}
-use Rattle.wsm_semantics.proofs.LaterTurns.{Rooms, rooms_before, turn, turn_now, does_alike}
+use Rattle.wsm_semantics.proofs.StepTurns.{turn, turn_now}
+use Rattle.wsm_semantics.proofs.LaterTurns.{Rooms, rooms_before, does_alike}
 use Rattle.wsm_semantics.proofs.LaterSessions.{AreBeside, were_beside}
 
 -- a time may stand behind others

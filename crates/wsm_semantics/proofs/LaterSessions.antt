@@ -2,7 +2,7 @@
 -- time, or where it parts none, that begin after it.
 use Rattle.std.proofs.Common.{◌≡◌, Bool, true, false, ◌||◌, cond, List, [], ◌∷◌, ◌++◌, ℤ, pos, ◌+ℤ◌, ◌≤ℤ◌, refl, sym, ap, subst, ◌∙◌, ⊎_elim, arith}
 use Rattle.std.proofs.lemmas.Int.{ints, clamps}
-use Rattle.std.proofs.lemmas.Bool.{true≢false, or_left, or_right, or_cases}
+use Rattle.std.proofs.lemmas.Bool.{or_left, or_right, or_cases}
 use Rattle.std.specs.Prelude.{filter, int_le, int_lt}
 use Rattle.std.specs.Int.{int_max, int_min}
 use Rattle.std.specs.List.{AllByRecursion}
@@ -14,6 +14,7 @@ use Rattle.wsm_semantics.proofs.Lists.{all-each}
 use Rattle.wsm_semantics.proofs.Each.{all_of, all-after, all-both}
 use Rattle.wsm_semantics.proofs.Sessions.{AreRising, AreApart, is_rising, apart_rising, sessions-more}
 use Rattle.wsm_semantics.proofs.SessionTimes.{sorted}
+use Rattle.wsm_semantics.proofs.Given.{of_passed}
 
 -- ---- later times, in order
 
@@ -174,15 +175,6 @@ module _ (gap : ℤ) (long : pos 1 ≤ℤ gap) (x : ℤ) where
       (λ begins. or_left (int_lt x w.start) (int_le w.end (x +ℤ gap)) (begins_in v.start w.start h.0 begins))
       (λ ends. or_right (int_lt x w.start) (int_le w.end (x +ℤ gap)) (ends_in w.end v.end h.1 ends))
       (or_cases (int_lt x v.start) (int_le v.end (x +ℤ gap)) k)
-
-  -- what is true of those that pass is true of each that passes
-  of_passed : (P : Window → Type 0) (t : Window → Bool) (ws : List Window) → AllByRecursion P (filter t ws) → AllByRecursion (λ w. t w ≡ true → P w) ws
-  of_passed P t [] h = tt
-  of_passed P t (w ∷ ws) h =
-      elim (t w) as (λ b. t w ≡ b → AllByRecursion P (cond b (w ∷ filter t ws) (filter t ws)) → AllByRecursion (λ w. t w ≡ true → P w) (w ∷ ws)) [
-        | true ↦ λ _ k. (λ _. k.0, of_passed P t ws k.1)
-        | false ↦ λ fails k. ((λ passes. absurd (true≢false (sym passes ∙ fails))), of_passed P t ws k)
-      ] refl h
 
   abbrev IsBeside : Window → Type 0
   IsBeside w = is_beside gap x w ≡ true

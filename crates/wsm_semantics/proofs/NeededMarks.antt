@@ -1,24 +1,25 @@
 -- A history without records that came up to some time, and its needed events: which are selected, and the marks of its sources.
-use Rattle.std.proofs.Common.{◌≡◌, ◌≢◌, ℕ, ◌≤◌, ◌<◌, Bool, true, false, ◌&&◌, ◌||◌, cond, not, List, [], ◌∷◌, ℤ, ◌≤ℤ◌, ◌<ℤ◌, Option, Some, None, is_none, refl, sym, ap, subst, ◌∙◌, arith}
+use Rattle.std.proofs.Common.{◌≡◌, ℕ, ◌≤◌, ◌<◌, Bool, true, false, ◌&&◌, cond, not, ◌||◌, List, [], ◌∷◌, ℤ, ◌≤ℤ◌, ◌<ℤ◌, Option, Some, None, is_none, refl, sym, ap, subst, ◌∙◌, arith}
 use Rattle.std.proofs.lemmas.Int.{ints}
 use Rattle.std.proofs.lemmas.Bool.{true≢false}
 use Rattle.std.proofs.lemmas.Bool.Decides.{nat_tests}
 use Rattle.std.proofs.lemmas.Option.{same_Some}
-use Rattle.std.specs.Prelude.{int_lt, nat_eq}
+use Rattle.std.specs.Prelude.{filter, int_lt, nat_eq}
 use Rattle.std.specs.List.{range_with_len}
 use Rattle.std.specs.Int.{int_max}
 use Rattle.wsm_record.specs.Event.{Event, Record, Watermark}
 use Rattle.wsm_record.specs.Schema.{source_count}
 use Rattle.wsm_admission.specs.declared.verdict.Refusal.{Refusal}
-use Rattle.wsm_admission.specs.Clock.{source_mark, marks_of, is_time, admitted_count, admitted_with, verdict_at}
+use Rattle.wsm_admission.specs.Clock.{source_mark, marks_of, is_time, admitted_count}
 use Rattle.wsm_admission.proofs.SourceMarks.{least_rises, IsAccepted, accepted_watermark, refused_marks}
 use Rattle.wsm_semantics.specs.Query.{Query, mark, verdict_on, is_taken}
 use Rattle.wsm_semantics.specs.ByKey.{HasRoom}
 use Rattle.wsm_semantics.specs.FromWatermark.{begun_at, Step, Stays, Goes, Times, whole, rest, LeavesOut}
 use Rattle.wsm_semantics.specs.Needed.{is_selected_after, is_one_of, needed_without}
 use Rattle.wsm_semantics.proofs.Decided.{no_less, none_is}
-use Rattle.wsm_semantics.proofs.KeyParts.{fewer_admitted, one_more, no_fewer}
-use Rattle.wsm_semantics.proofs.LaterMarks.{marks_each, source_alike, marks_of_steps}
+use Rattle.wsm_semantics.proofs.KeyParts.{fewer_thinned, marks_thinned, room_thinned, verdict_thinned}
+use Rattle.wsm_semantics.proofs.StepTurns.{rest_is, steps_by, whole_is}
+use Rattle.wsm_semantics.proofs.LaterMarks.{marks_each, source_alike}
 
 itself : (m : ℤ) → m ≤ℤ m
 itself m = omega (arith, ints)
@@ -26,32 +27,23 @@ itself m = omega (arith, ints)
 -- ---- without records that came up to some time
 
 module _ (q : Query) (x : Times) where
-  abbrev step_of : Event → Step
-  step_of (Record None t vs) = Goes (Record None t vs)
-  step_of (Record (Some k) t vs) = cond (int_lt (x k) t) (Stays (Record (Some k) t vs)) (Goes (Record (Some k) t vs))
-  step_of (Watermark o t) = Stays (Watermark o t)
+  -- a watermark, or a record of a declared key that came up after its time
+  abbrev is_later : Event → Bool
+  is_later (Record None t vs) = false
+  is_later (Record (Some k) t vs) = int_lt (x k) t
+  is_later (Watermark o t) = true
 
   abbrev pub steps_of : List Event → List Step
-  steps_of [] = []
-  steps_of (e ∷ past) = step_of e ∷ steps_of past
+  steps_of past = steps_by is_later past
 
   abbrev pub later : List Event → List Event
   later past = rest (steps_of past) []
 
-  of_step : (P : List Event → Type 0) (past : List Event) (e : Event) → P (e ∷ later past) → P (later past) → P (later (e ∷ past))
-  of_step P past (Record None t vs) stays goes = goes
-  of_step P past (Record (Some k) t vs) stays goes =
-      elim (int_lt (x k) t) as (λ b. P (rest (cond b (Stays (Record (Some k) t vs)) (Goes (Record (Some k) t vs)) ∷ steps_of past) [])) [ true ↦ stays | false ↦ goes ]
-  of_step P past (Watermark o t) stays goes = stays
-
   pub steps_whole : (past : List Event) → whole (steps_of past) [] ≡ past
-  steps_whole [] = refl
-  steps_whole (e ∷ past) = one e ∙ ap (λ (es : List Event). e ∷ es) (steps_whole past) where
-    one : (e : Event) → whole (step_of e ∷ steps_of past) [] ≡ e ∷ whole (steps_of past) []
-    one (Record None t vs) = refl
-    one (Record (Some k) t vs) =
-        elim (int_lt (x k) t) as (λ b. whole (cond b (Stays (Record (Some k) t vs)) (Goes (Record (Some k) t vs)) ∷ steps_of past) [] ≡ Record (Some k) t vs ∷ whole (steps_of past) []) [ true ↦ refl | false ↦ refl ]
-    one (Watermark o t) = refl
+  steps_whole = whole_is is_later
+
+  later_is : (past : List Event) → later past ≡ filter is_later past
+  later_is = rest_is is_later
 
   pub steps_out : (past : List Event) → LeavesOut x (steps_of past)
   steps_out [] = tt
@@ -64,32 +56,16 @@ module _ (q : Query) (x : Times) where
   steps_out (Watermark o t ∷ past) = steps_out past
 
   pub later_marks : (past : List Event) → marks_of q.clock q.declared (later past) ≡ marks_of q.clock q.declared past
-  later_marks past = marks_of_steps q q.clock.start q.clock.records x [] [] refl (steps_of past) (steps_out past) ∙ ap (marks_of q.clock q.declared) (steps_whole past)
+  later_marks past = ap (marks_of q.clock q.declared) (later_is past) ∙ marks_thinned is_later (λ o t. refl) q.clock q.declared past
 
-  -- fewer are admitted, so none is refused for RECORDS either
-  abbrev admitted : List Event → ℕ
-  admitted past = admitted_count q.clock q.shape q.declared past
-
-  verdict_by : (past : List Event) (e : Event) → admitted (later past) ≤ admitted past → HasRoom q (e ∷ past) → verdict_on q (later past) e ≡ verdict_on q past e
-  verdict_by past e fewer room =
-      ap (λ (ms : List ℤ). verdict_at q.clock q.shape q.declared ms (admitted (later past)) e) (later_marks past)
-      ∙ fewer_admitted q.clock q.shape q.declared (marks_of q.clock q.declared past) (admitted (later past)) (admitted past) e fewer room.0
-
-  pub fewer : (past : List Event) → HasRoom q past → admitted (later past) ≤ admitted past
-  fewer [] room = omega arith
-  fewer (e ∷ past) room =
-      let before : admitted (later past) ≤ admitted past = fewer past room.1 in
-      of_step (λ es. admitted es ≤ admitted (e ∷ past)) past e
-      (subst (λ (v : Option Refusal). admitted_with (admitted (later past)) e v ≤ admitted_with (admitted past) e (verdict_on q past e)) (sym (verdict_by past e before room))
-      (one_more (admitted (later past)) (admitted past) e (verdict_on q past e) before))
-      (no_fewer (admitted (later past)) (admitted past) e (verdict_on q past e) before)
+  pub fewer : (past : List Event) → HasRoom q past → admitted_count q.clock q.shape q.declared (later past) ≤ admitted_count q.clock q.shape q.declared past
+  fewer past room = subst (λ (es : List Event). admitted_count q.clock q.shape q.declared es ≤ admitted_count q.clock q.shape q.declared past) (sym (later_is past)) (fewer_thinned is_later (λ o t. refl) q past room)
 
   pub later_verdict : (past : List Event) (e : Event) → HasRoom q (e ∷ past) → verdict_on q (later past) e ≡ verdict_on q past e
-  later_verdict past e room = verdict_by past e (fewer past room.1) room
+  later_verdict past e room = ap (λ (es : List Event). verdict_on q es e) (later_is past) ∙ verdict_thinned is_later (λ o t. refl) q past e room
 
   pub later_room : (past : List Event) → HasRoom q past → HasRoom q (later past)
-  later_room [] room = tt
-  later_room (e ∷ past) room = of_step (HasRoom q) past e (λ full. room.0 (sym (later_verdict past e room) ∙ full), later_room past room.1) (later_room past room.1)
+  later_room past room = subst (HasRoom q) (sym (later_is past)) (room_thinned is_later (λ o t. refl) q past room)
 
 -- ---- the marks of sources
 
