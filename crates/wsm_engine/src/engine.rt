@@ -29,13 +29,24 @@ use wsm_rules::Verified;
 use wsm_semantics::{OutRow, Totals};
 
 /// A verified program, what is kept of the events, and the rows of the last one.
-#[derive(Drop)]
 pub struct Engine {
     verified: Verified,
     admission: Decider,
     operator: WindowOperator,
     fed: u64,
     fired: u64,
+}
+
+impl Drop for Engine {
+    fn drop(self) {
+        let Engine {
+            verified: _,
+            admission: _,
+            operator: _,
+            fed: _,
+            fired: _,
+        } = self;
+    }
 }
 
 impl Model for Engine {
@@ -172,7 +183,14 @@ impl Engine {
     pub fn into_program(self) -> Verified
         ensures { result ≡ self.program }
     {
-        self.verified
+        let Engine {
+            verified,
+            admission: _,
+            operator: _,
+            fed: _,
+            fired: _,
+        } = self;
+        verified
     }
 
     // The turn of an event, as a step of the machine that keeps a summary for each held pane.

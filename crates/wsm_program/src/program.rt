@@ -28,7 +28,6 @@ pub struct Costs {
 }
 
 /// What a program declares before its sections. Times and spans are in units of event time.
-#[derive(Drop)]
 pub struct Header {
     /// The keys and the fields of a record.
     pub schema: Schema,
@@ -54,14 +53,41 @@ pub struct Header {
     pub budget: Costs,
 }
 
+impl Drop for Header {
+    fn drop(self) {
+        let Header {
+            schema: _,
+            clock: _,
+            shape: _,
+            mode: _,
+            early: _,
+            late: _,
+            form: _,
+            kinds: _,
+            columns: _,
+            budget: _,
+        } = self;
+    }
+}
+
 /// A header and three sections. Their numbers lie in their ranges, and each operand names a field,
 /// an accumulator or a name that there is. A jump's target may be any number.
-#[derive(Drop)]
 pub struct Program {
     header: Header,
     selection: Section,
     update: Section,
     fire: Section,
+}
+
+impl Drop for Program {
+    fn drop(self) {
+        let Program {
+            header: _,
+            selection: _,
+            update: _,
+            fire: _,
+        } = self;
+    }
 }
 
 impl Model for Program {
