@@ -86,6 +86,7 @@ impl Folded {
 }
 
 /// Folds a row of values into what accumulators of these kinds hold, a value each, where they are.
+#[inline(always)]
 pub fn fold_into(kinds: &[Kind], held: &mut [Value], values: &[Value])
     requires held { IsTrue (are_of_kinds kinds.now held.old) }
     requires types { IsTrue (are_of_kinds kinds.now values.now) }
