@@ -11,5 +11,5 @@ pub mod Sides
 pub mod Summing
 pub mod Merging
 pub mod Settled
-pub mod SettledChanges
+pub mod SettledLists
 pub mod ToldChanges

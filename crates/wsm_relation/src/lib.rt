@@ -30,6 +30,7 @@ pub use relation::{Relation, dstream, istream, rstream};
 
 mod changes;
 mod finding;
+mod lists;
 mod order;
 mod relation;
 mod rows;

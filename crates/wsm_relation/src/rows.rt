@@ -2,6 +2,7 @@
 
 ghost use Rattle.std.specs.Prelude.{◌≡◌, ◌+◌, ◌≤◌, ◌++◌, length, vec_len, vec_capacity};
 ghost use Rattle.wsm_semantics.specs.Relation.{difference};
+ghost use Rattle.wsm_relation.specs.Memory.{HasItems};
 ghost use Rattle.wsm_relation.specs.Rows.{rows_in, IsInOrder, passed};
 
 use crate::order::row_order;
@@ -29,8 +30,7 @@ pub fn place_of(rows: &[Box<Columns>], row: &Columns) -> usize
 /// Appends the rows.
 pub fn append_all(rows: &[Box<Columns>], out: &mut Vec<Columns>)
     requires { vec_len out.old + length rows.now ≤ vec_capacity out.old }
-    ensures rows { out.new.items ≡ out.old.items ++ rows_in rows.now }
-    ensures capacity { vec_capacity out.new ≡ vec_capacity out.old }
+    ensures { HasItems out.old out.new (out.old.items ++ rows_in rows.now) }
 {
     let mut i = 0;
     while i < rows.len() {
@@ -44,8 +44,7 @@ pub fn append_difference(rows: &[Box<Columns>], others: &[Box<Columns>], out: &m
     requires rows { IsInOrder (rows_in rows.now) }
     requires others { IsInOrder (rows_in others.now) }
     requires room { vec_len out.old + length rows.now ≤ vec_capacity out.old }
-    ensures rows { out.new.items ≡ out.old.items ++ difference (rows_in rows.now) (rows_in others.now) }
-    ensures capacity { vec_capacity out.new ≡ vec_capacity out.old }
+    ensures { HasItems out.old out.new (out.old.items ++ difference (rows_in rows.now) (rows_in others.now)) }
 {
     let mut i = 0;
     let mut j = 0;

@@ -66,8 +66,11 @@ loop-i-preserved c = elim c.if-j-others.branch [
   | else-j-others w ↦ absurd (let bad : Greater ≡ Less = sym c.in-Greater.is ∙ w.order-is in cc)
 ]
 
-pub returns-clause-rows : goal.returns-clause-rows
-returns-clause-rows c =
-    sym (append-nil c.loop-i.out.items)
-    ∙ ap (λ l. c.loop-i.out.items ++ l) (sym (left-end c.args.rows.now c.args.others.now c.loop-i.i c.loop-i.j c.loop-i-test.false))
-    ∙ c.loop-i.invariant.items
+pub returns : goal.returns
+returns c = record {
+  items =
+      sym (append-nil c.loop-i.out.items)
+      ∙ ap (λ l. c.loop-i.out.items ++ l) (sym (left-end c.args.rows.now c.args.others.now c.loop-i.i c.loop-i.j c.loop-i-test.false))
+      ∙ c.loop-i.invariant.items;
+  capacity = c.loop-i.invariant.capacity;
+}
