@@ -1,12 +1,19 @@
--- Steps of the rules: a level, or a turn of a chain, taken of those that are left, a number, and the parts of chains.
-use Rattle.std.specs.Prelude.{ℕ, zero, suc, List, Option}
-use Rattle.wsm_tokens.specs.Read.{Rule, Took, Stopped, ◌>>=◌, give, too_deep, behind, number}
+-- Steps of the rules: what a function reads by one, a level, or a turn of a chain, taken of those that are left, a number, and the parts of chains.
+use Rattle.std.specs.Prelude.{ℕ, zero, suc, ◌≤◌, List, Option, Result}
+use Rattle.wsm_tokens.specs.declared.fault.Stop.{Stop}
+use Rattle.wsm_tokens.specs.Tokens.{Tokens}
+use Rattle.wsm_tokens.specs.Read.{Rule, Gives, Took, Stopped, ◌>>=◌, count, give, too_deep, behind, number}
 use Rattle.wsm_query.specs.declared.parse_expr.Bond.{Bond}
 use Rattle.wsm_query.specs.declared.parse_expr.Bond.TheVariants as bonds
 use Rattle.wsm_query.specs.declared.parse_expr.Link.{Link}
 use Rattle.wsm_query.specs.declared.parse_expr.Link.TheVariants as links
 use Rattle.wsm_query.specs.Tree.{Expr, Number, Binary, And, Or}
 use Rattle.wsm_query.specs.Grammar.{ors, ands, sums, products, conj, neg, prod, unary, Deeper, deeper, levels}
+
+-- the code answered what a rule reads of the tokens before, and no more tokens are left than those
+pub record Reads {X A : Type 0} (view : X → A) (result : Result X Stop) (rest : Tokens) (rule : Rule A) (before : Tokens) : Type 0 where
+  pub gives : Gives view result rest (rule before)
+  pub onward : count rest ≤ count before
 
 -- takes the next token where one more is left, and leaves one fewer
 abbrev pub spend : ℕ → Rule ℕ

@@ -1,10 +1,11 @@
 //! The rules of the grammar below the expressions: a function each, in the grammar's order.
 
-ghost use Rattle.std.specs.Prelude.{◌≡◌, ◌≤◌, codes, map};
-ghost use Rattle.wsm_tokens.specs.Read.{Gives, count, number};
+ghost use Rattle.std.specs.Prelude.{codes, map};
+ghost use Rattle.wsm_tokens.specs.Read.{Gives, number};
 ghost use Rattle.wsm_query.specs.Grammar.{int, names, type_of, field, brace, list_of, expr, shape, mode, form, every, budget, clause as one_clause, clock, from_window, sources};
 ghost use Rattle.wsm_record.specs.Fields.{declared_field, declared_type};
 ghost use Rattle.wsm_query.specs.Seen.{seen_expr};
+ghost use Rattle.wsm_query.specs.Steps.{Reads};
 
 use crate::expr::Expr;
 use crate::parse_expr::expression;
@@ -18,8 +19,7 @@ use wsm_windows::Shape;
 // int = [ "-" ] num
 #[tactic(auto, unfolding(crate::specs::Grammar::int))]
 fn int(reader: &mut Reader) -> Result<i64, Stop>
-    ensures gives { Gives (λ n. n) result reader.new (int reader.old) }
-    ensures onward { count reader.new ≤ count reader.old }
+    ensures { Reads (λ n. n) result reader.new int reader.old }
 {
     if reader.begins(b"-") {
         reader.advance();
@@ -33,8 +33,7 @@ fn int(reader: &mut Reader) -> Result<i64, Stop>
 /// `names = name { "," name }`
 #[tactic(auto, unfolding(crate::specs::Grammar::names, crate::specs::Grammar::list_of, crate::specs::Grammar::brace))]
 pub fn names(alloc: Global, reader: &mut Reader) -> Result<Vec<Name>, Stop>
-    ensures gives { Gives (λ v. v.items) result reader.new (names reader.old) }
-    ensures onward { count reader.new ≤ count reader.old }
+    ensures { Reads (λ v. v.items) result reader.new names reader.old }
 {
     let mut names = Vec::new(alloc);
     let first = reader.name()?;
@@ -50,8 +49,7 @@ pub fn names(alloc: Global, reader: &mut Reader) -> Result<Vec<Name>, Stop>
 // type = "INT" int ".." int | "BOOL" | "ENUM" "(" names ")"
 #[tactic(auto, unfolding(crate::specs::Grammar::type_of))]
 fn type_of(alloc: Global, reader: &mut Reader) -> Result<Ty, Stop>
-    ensures gives { Gives declared_type result reader.new (type_of reader.old) }
-    ensures onward { count reader.new ≤ count reader.old }
+    ensures { Reads declared_type result reader.new type_of reader.old }
 {
     if reader.begins(b"INT") {
         reader.advance();
@@ -74,8 +72,7 @@ fn type_of(alloc: Global, reader: &mut Reader) -> Result<Ty, Stop>
 // name type ";", behind FIELD
 #[tactic(auto, unfolding(crate::specs::Grammar::field))]
 fn field(alloc: Global, reader: &mut Reader) -> Result<Field, Stop>
-    ensures gives { Gives declared_field result reader.new (field reader.old) }
-    ensures onward { count reader.new ≤ count reader.old }
+    ensures { Reads declared_field result reader.new field reader.old }
 {
     let name = reader.name()?;
     let ty = type_of(alloc, reader)?;
@@ -86,8 +83,7 @@ fn field(alloc: Global, reader: &mut Reader) -> Result<Field, Stop>
 /// `{ "FIELD" name type ";" }`
 #[tactic(auto, unfolding(crate::specs::Grammar::brace))]
 pub fn fields(alloc: Global, reader: &mut Reader) -> Result<Vec<Field>, Stop>
-    ensures gives { Gives (λ v. map declared_field v.items) result reader.new (brace (codes "FIELD") field reader.old) }
-    ensures onward { count reader.new ≤ count reader.old }
+    ensures { Reads (λ v. map declared_field v.items) result reader.new (brace (codes "FIELD") field) reader.old }
 {
     let mut fields = Vec::new(alloc);
     while reader.begins(b"FIELD") {
@@ -101,8 +97,7 @@ pub fn fields(alloc: Global, reader: &mut Reader) -> Result<Vec<Field>, Stop>
 /// `[ "SOURCES" names ";" ]`, and no sources where the clause is absent
 #[tactic(auto, unfolding(crate::specs::Grammar::sources))]
 pub fn sources(alloc: Global, reader: &mut Reader) -> Result<Vec<Name>, Stop>
-    ensures gives { Gives (λ v. v.items) result reader.new (sources reader.old) }
-    ensures onward { count reader.new ≤ count reader.old }
+    ensures { Reads (λ v. v.items) result reader.new sources reader.old }
 {
     if !reader.begins(b"SOURCES") {
         return Ok(Vec::new(alloc));
@@ -147,8 +142,7 @@ fn clause(reader: &mut Reader, word: &[u8]) -> Result<i64, Stop>
 // `[ "FROM" "WINDOW" ]`, behind the number of LATENESS: whether the words stand there
 #[tactic(auto, unfolding(crate::specs::Grammar::from_window))]
 fn from_window(reader: &mut Reader) -> Result<bool, Stop>
-    ensures gives { Gives (λ b. b) result reader.new (from_window reader.old) }
-    ensures onward { count reader.new ≤ count reader.old }
+    ensures { Reads (λ b. b) result reader.new from_window reader.old }
 {
     if !reader.begins(b"FROM") {
         return Ok(false);
@@ -161,8 +155,7 @@ fn from_window(reader: &mut Reader) -> Result<bool, Stop>
 /// `expr { "," expr }`
 #[tactic(auto, unfolding(crate::specs::Grammar::list_of, crate::specs::Grammar::brace))]
 pub fn columns(alloc: Global, reader: &mut Reader) -> Result<Vec<Expr>, Stop>
-    ensures gives { Gives (λ v. map seen_expr v.items) result reader.new (list_of expr reader.old) }
-    ensures onward { count reader.new ≤ count reader.old }
+    ensures { Reads (λ v. map seen_expr v.items) result reader.new (list_of expr) reader.old }
 {
     let mut columns = Vec::new(alloc);
     let first = expression(alloc, reader)?;
@@ -178,8 +171,7 @@ pub fn columns(alloc: Global, reader: &mut Reader) -> Result<Vec<Expr>, Stop>
 /// `shape = "FIXED" num | "SLIDING" num "EVERY" num | "SESSION" num`
 #[tactic(auto, unfolding(crate::specs::Grammar::shape))]
 pub fn shape(reader: &mut Reader) -> Result<Shape, Stop>
-    ensures gives { Gives (λ s. s) result reader.new (shape reader.old) }
-    ensures onward { count reader.new ≤ count reader.old }
+    ensures { Reads (λ s. s) result reader.new shape reader.old }
 {
     if reader.begins(b"FIXED") {
         reader.advance();
@@ -198,8 +190,7 @@ pub fn shape(reader: &mut Reader) -> Result<Shape, Stop>
 /// `mode = "ACCUMULATING" | "DISCARDING" | "RETRACTING"`
 #[tactic(auto, unfolding(crate::specs::Grammar::mode))]
 pub fn mode(reader: &mut Reader) -> Result<Mode, Stop>
-    ensures gives { Gives (λ m. m) result reader.new (mode reader.old) }
-    ensures onward { count reader.new ≤ count reader.old }
+    ensures { Reads (λ m. m) result reader.new mode reader.old }
 {
     let mode = if reader.begins(b"ACCUMULATING") {
         Mode::Accumulating
@@ -217,8 +208,7 @@ pub fn mode(reader: &mut Reader) -> Result<Mode, Stop>
 /// `form = "PANES" | "ISTREAM" | "DSTREAM" | "RSTREAM"`
 #[tactic(auto, unfolding(crate::specs::Grammar::form))]
 pub fn form(reader: &mut Reader) -> Result<Form, Stop>
-    ensures gives { Gives (λ f. f) result reader.new (form reader.old) }
-    ensures onward { count reader.new ≤ count reader.old }
+    ensures { Reads (λ f. f) result reader.new form reader.old }
 {
     let form = if reader.begins(b"PANES") {
         Form::Panes
@@ -238,8 +228,7 @@ pub fn form(reader: &mut Reader) -> Result<Form, Stop>
 /// `"EVERY" num`, behind EARLY or LATE
 #[tactic(auto, unfolding(crate::specs::Grammar::every))]
 pub fn every(reader: &mut Reader) -> Result<i64, Stop>
-    ensures gives { Gives (λ n. n) result reader.new (every reader.old) }
-    ensures onward { count reader.new ≤ count reader.old }
+    ensures { Reads (λ n. n) result reader.new every reader.old }
 {
     reader.ask(b"EVERY")?;
     reader.number()
@@ -248,8 +237,7 @@ pub fn every(reader: &mut Reader) -> Result<i64, Stop>
 /// `"RECORD" num "PANE" num "HELD" num ";"`, behind BUDGET
 #[tactic(auto, unfolding(crate::specs::Grammar::budget))]
 pub fn budget(reader: &mut Reader) -> Result<Budget, Stop>
-    ensures gives { Gives (λ b. b) result reader.new (budget reader.old) }
-    ensures onward { count reader.new ≤ count reader.old }
+    ensures { Reads (λ b. b) result reader.new budget reader.old }
 {
     reader.ask(b"RECORD")?;
     let per_record = reader.number()?;

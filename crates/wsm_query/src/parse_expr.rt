@@ -6,13 +6,12 @@
 //! A rule answers its tree in a box: where a later part is refused, letting a box go is one step, and
 //! letting a tree go one for each case that it may be of.
 
-ghost use Rattle.std.specs.Prelude.{◌≡◌, ◌≤◌, ◌∷◌, [], option_map, IfOk};
-ghost use Rattle.wsm_tokens.specs.Read.{Gives, count};
+ghost use Rattle.std.specs.Prelude.{◌≡◌, ◌∷◌, [], option_map, IfOk};
 ghost use Rattle.wsm_query.specs.Tree as tree;
 ghost use Rattle.wsm_query.specs.Grammar as rule;
 ghost use Rattle.wsm_query.specs.Grammar.{levels, looked_up};
 ghost use Rattle.wsm_query.specs.Seen.{seen_expr};
-ghost use Rattle.wsm_query.specs.Steps.{made, numbered, operand_of, table_of};
+ghost use Rattle.wsm_query.specs.Steps.{Reads, made, numbered, operand_of, table_of};
 
 use crate::expr::{Expr, Op};
 use crate::level::{open, spend};
@@ -25,16 +24,14 @@ use wsm_tokens::{Reader, Stop};
 /// `expr`, with all levels left.
 #[tactic(auto, unfolding(crate::specs::Grammar::expr))]
 pub fn boxed_expression(alloc: Global, reader: &mut Reader) -> Result<Box<Expr>, Stop>
-    ensures gives { Gives (λ b. seen_expr b.value) result reader.new (rule.expr reader.old) }
-    ensures onward { count reader.new ≤ count reader.old }
+    ensures { Reads (λ b. seen_expr b.value) result reader.new rule.expr reader.old }
 {
     expr(alloc, reader, MAX_LEVELS)
 }
 
 /// The same, out of its box.
 pub fn expression(alloc: Global, reader: &mut Reader) -> Result<Expr, Stop>
-    ensures gives { Gives seen_expr result reader.new (rule.expr reader.old) }
-    ensures onward { count reader.new ≤ count reader.old }
+    ensures { Reads seen_expr result reader.new rule.expr reader.old }
 {
     Ok(Box::into_inner(boxed_expression(alloc, reader)?))
 }
@@ -60,8 +57,7 @@ enum Link {
 #[cycle(expr)]
 #[tactic(auto, unfolding(crate::specs::Grammar::expr_in))]
 fn expr(alloc: Global, reader: &mut Reader, room: usize) -> Result<Box<Expr>, Stop>
-    ensures gives { Gives (λ b. seen_expr b.value) result reader.new (rule.expr_in (levels room) reader.old) }
-    ensures onward { count reader.new ≤ count reader.old }
+    ensures { Reads (λ b. seen_expr b.value) result reader.new (rule.expr_in (levels room)) reader.old }
 {
     chain(alloc, reader, room, Bond::Or)
 }
@@ -70,8 +66,7 @@ fn expr(alloc: Global, reader: &mut Reader, room: usize) -> Result<Box<Expr>, St
 #[cycle(expr)]
 #[tactic(auto, unfolding(crate::specs::Grammar::chained))]
 fn chain(alloc: Global, reader: &mut Reader, room: usize, bond: Bond) -> Result<Box<Expr>, Stop>
-    ensures gives { Gives (λ b. seen_expr b.value) result reader.new (rule.chained (table_of bond) (operand_of bond (levels room)) reader.old) }
-    ensures onward { count reader.new ≤ count reader.old }
+    ensures { Reads (λ b. seen_expr b.value) result reader.new (rule.chained (table_of bond) (operand_of bond (levels room))) reader.old }
 {
     let mut left = operand(alloc, reader, room, bond)?;
     let mut turns = MAX_CHAIN;
@@ -87,8 +82,7 @@ fn chain(alloc: Global, reader: &mut Reader, room: usize, bond: Bond) -> Result<
 #[cycle(expr)]
 #[tactic(auto, unfolding(crate::specs::Grammar::conj, crate::specs::Grammar::prod))]
 fn operand(alloc: Global, reader: &mut Reader, room: usize, bond: Bond) -> Result<Box<Expr>, Stop>
-    ensures gives { Gives (λ b. seen_expr b.value) result reader.new (operand_of bond (levels room) reader.old) }
-    ensures onward { count reader.new ≤ count reader.old }
+    ensures { Reads (λ b. seen_expr b.value) result reader.new (operand_of bond (levels room)) reader.old }
 {
     match bond {
         Bond::Or => chain(alloc, reader, room, Bond::And),
@@ -102,8 +96,7 @@ fn operand(alloc: Global, reader: &mut Reader, room: usize, bond: Bond) -> Resul
 #[cycle(expr)]
 #[tactic(auto, unfolding(crate::specs::Grammar::neg))]
 fn neg(alloc: Global, reader: &mut Reader, room: usize) -> Result<Box<Expr>, Stop>
-    ensures gives { Gives (λ b. seen_expr b.value) result reader.new (rule.neg (levels room) reader.old) }
-    ensures onward { count reader.new ≤ count reader.old }
+    ensures { Reads (λ b. seen_expr b.value) result reader.new (rule.neg (levels room)) reader.old }
 {
     if !reader.begins(b"NOT") {
         return cmp(alloc, reader, room);
@@ -118,8 +111,7 @@ fn neg(alloc: Global, reader: &mut Reader, room: usize) -> Result<Box<Expr>, Sto
 #[cycle(expr)]
 #[tactic(auto, unfolding(crate::specs::Grammar::cmp, crate::specs::Grammar::sum))]
 fn cmp(alloc: Global, reader: &mut Reader, room: usize) -> Result<Box<Expr>, Stop>
-    ensures gives { Gives (λ b. seen_expr b.value) result reader.new (rule.cmp (levels room) reader.old) }
-    ensures onward { count reader.new ≤ count reader.old }
+    ensures { Reads (λ b. seen_expr b.value) result reader.new (rule.cmp (levels room)) reader.old }
 {
     let left = chain(alloc, reader, room, Bond::Sum)?;
     let Some(op) = comparison(reader) else {
@@ -134,8 +126,7 @@ fn cmp(alloc: Global, reader: &mut Reader, room: usize) -> Result<Box<Expr>, Sto
 #[cycle(expr)]
 #[tactic(auto, unfolding(crate::specs::Grammar::unary))]
 fn unary(alloc: Global, reader: &mut Reader, room: usize) -> Result<Box<Expr>, Stop>
-    ensures gives { Gives (λ b. seen_expr b.value) result reader.new (rule.unary (levels room) reader.old) }
-    ensures onward { count reader.new ≤ count reader.old }
+    ensures { Reads (λ b. seen_expr b.value) result reader.new (rule.unary (levels room)) reader.old }
 {
     if !reader.begins(b"-") {
         return atom(alloc, reader, room);
@@ -149,8 +140,7 @@ fn unary(alloc: Global, reader: &mut Reader, room: usize) -> Result<Box<Expr>, S
 #[cycle(expr)]
 #[tactic(auto, unfolding(crate::specs::Grammar::atom, crate::specs::Steps::numbered))]
 fn atom(alloc: Global, reader: &mut Reader, room: usize) -> Result<Box<Expr>, Stop>
-    ensures gives { Gives (λ b. seen_expr b.value) result reader.new (rule.atom (levels room) reader.old) }
-    ensures onward { count reader.new ≤ count reader.old }
+    ensures { Reads (λ b. seen_expr b.value) result reader.new (rule.atom (levels room)) reader.old }
 {
     if reader.begins_number() {
         return number(alloc, reader);
@@ -174,8 +164,7 @@ fn atom(alloc: Global, reader: &mut Reader, room: usize) -> Result<Box<Expr>, St
 #[cycle(expr)]
 #[tactic(auto, unfolding(crate::specs::Grammar::aggregate))]
 fn aggregate(alloc: Global, reader: &mut Reader, room: usize, kind: Kind) -> Result<Box<Expr>, Stop>
-    ensures gives { Gives (λ b. seen_expr b.value) result reader.new (rule.aggregate (levels room) kind reader.old) }
-    ensures onward { count reader.new ≤ count reader.old }
+    ensures { Reads (λ b. seen_expr b.value) result reader.new (rule.aggregate (levels room) kind) reader.old }
 {
     let room = open(reader, room)?;
     reader.ask(b"(")?;
@@ -188,8 +177,7 @@ fn aggregate(alloc: Global, reader: &mut Reader, room: usize, kind: Kind) -> Res
 #[cycle(expr)]
 #[tactic(auto, unfolding(crate::specs::Grammar::choice))]
 fn choice(alloc: Global, reader: &mut Reader, room: usize) -> Result<Box<Expr>, Stop>
-    ensures gives { Gives (λ b. seen_expr b.value) result reader.new (rule.choice (levels room) reader.old) }
-    ensures onward { count reader.new ≤ count reader.old }
+    ensures { Reads (λ b. seen_expr b.value) result reader.new (rule.choice (levels room)) reader.old }
 {
     let room = open(reader, room)?;
     let test = expr(alloc, reader, room)?;
@@ -202,8 +190,7 @@ fn choice(alloc: Global, reader: &mut Reader, room: usize) -> Result<Box<Expr>, 
 // a word and an expr
 #[cycle(expr)]
 fn branch(alloc: Global, reader: &mut Reader, room: usize, word: &[u8]) -> Result<Box<Expr>, Stop>
-    ensures gives { Gives (λ b. seen_expr b.value) result reader.new (rule.after word.now (rule.expr_in (levels room)) reader.old) }
-    ensures onward { count reader.new ≤ count reader.old }
+    ensures { Reads (λ b. seen_expr b.value) result reader.new (rule.after word.now (rule.expr_in (levels room))) reader.old }
 {
     reader.ask(word)?;
     expr(alloc, reader, room)
@@ -213,8 +200,7 @@ fn branch(alloc: Global, reader: &mut Reader, room: usize, word: &[u8]) -> Resul
 #[cycle(expr)]
 #[tactic(auto, unfolding(crate::specs::Grammar::brackets))]
 fn brackets(alloc: Global, reader: &mut Reader, room: usize) -> Result<Box<Expr>, Stop>
-    ensures gives { Gives (λ b. seen_expr b.value) result reader.new (rule.brackets (levels room) reader.old) }
-    ensures onward { count reader.new ≤ count reader.old }
+    ensures { Reads (λ b. seen_expr b.value) result reader.new (rule.brackets (levels room)) reader.old }
 {
     let room = open(reader, room)?;
     let inner = expr(alloc, reader, room)?;
@@ -225,8 +211,7 @@ fn brackets(alloc: Global, reader: &mut Reader, room: usize) -> Result<Box<Expr>
 // "COUNT" "(" "*" ")"
 #[tactic(auto, unfolding(crate::specs::Grammar::count_of))]
 fn count_of(alloc: Global, reader: &mut Reader, room: usize) -> Result<Box<Expr>, Stop>
-    ensures gives { Gives (λ b. seen_expr b.value) result reader.new (rule.count_of (levels room) reader.old) }
-    ensures onward { count reader.new ≤ count reader.old }
+    ensures { Reads (λ b. seen_expr b.value) result reader.new (rule.count_of (levels room)) reader.old }
 {
     let _ = open(reader, room)?;
     reader.ask(b"(")?;
@@ -238,8 +223,7 @@ fn count_of(alloc: Global, reader: &mut Reader, room: usize) -> Result<Box<Expr>
 // num
 #[tactic(auto, unfolding(crate::specs::Steps::numbered))]
 fn number(alloc: Global, reader: &mut Reader) -> Result<Box<Expr>, Stop>
-    ensures gives { Gives (λ b. seen_expr b.value) result reader.new (numbered reader.old) }
-    ensures onward { count reader.new ≤ count reader.old }
+    ensures { Reads (λ b. seen_expr b.value) result reader.new numbered reader.old }
 {
     let value = reader.number()?;
     Ok(Box::new(alloc, Expr::Number(value))?)
@@ -247,8 +231,7 @@ fn number(alloc: Global, reader: &mut Reader) -> Result<Box<Expr>, Stop>
 
 // leaf, in a box
 fn boxed_leaf(alloc: Global, reader: &mut Reader) -> Result<Box<Expr>, Stop>
-    ensures gives { Gives (λ b. seen_expr b.value) result reader.new (rule.leaf reader.old) }
-    ensures onward { count reader.new ≤ count reader.old }
+    ensures { Reads (λ b. seen_expr b.value) result reader.new rule.leaf reader.old }
 {
     let leaf = leaf(reader)?;
     Ok(Box::new(alloc, leaf)?)
@@ -257,8 +240,7 @@ fn boxed_leaf(alloc: Global, reader: &mut Reader) -> Result<Box<Expr>, Stop>
 // "TRUE" | "FALSE" | "KEY" [ "." name ] | name [ "." name ]
 #[tactic(auto, unfolding(crate::specs::Grammar::leaf, crate::specs::Grammar::pointed))]
 fn leaf(reader: &mut Reader) -> Result<Expr, Stop>
-    ensures gives { Gives seen_expr result reader.new (rule.leaf reader.old) }
-    ensures onward { count reader.new ≤ count reader.old }
+    ensures { Reads seen_expr result reader.new rule.leaf reader.old }
 {
     if reader.begins(b"TRUE") {
         reader.advance();
@@ -283,8 +265,7 @@ fn leaf(reader: &mut Reader) -> Result<Expr, Stop>
 // [ "." name ], behind KEY
 #[tactic(auto, unfolding(crate::specs::Grammar::pointed))]
 fn key(reader: &mut Reader) -> Result<Expr, Stop>
-    ensures gives { Gives seen_expr result reader.new (rule.pointed tree.Key tree.KeyName reader.old) }
-    ensures onward { count reader.new ≤ count reader.old }
+    ensures { Reads seen_expr result reader.new (rule.pointed tree.Key tree.KeyName) reader.old }
 {
     if !reader.begins(b".") {
         return Ok(Expr::Key);
