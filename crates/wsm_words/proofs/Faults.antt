@@ -1,12 +1,11 @@
 -- What is told of `clap`'s error.
-use Rattle.std.proofs.Common.{◌≡◌, [], Ok, Err, Result, IfErr, inl, inr, subst, sym}
+use Rattle.std.proofs.Common.{◌≡◌, inl, inr, subst, sym}
 use Rattle.clap.specs.Words.{HasKind, IsAmong, Kinds, kind_of}
 use Rattle.clap.specs.declared.error.Error.{Error}
 use Rattle.clap.specs.declared.error.kind.ErrorKind.TheVariants.{OutOfMemory}
-use Rattle.wsm_words.specs.declared.job.Job.{Job}
 use Rattle.wsm_words.specs.declared.refusal.WordsRefusal.{WordsRefusal}
 use Rattle.wsm_words.specs.declared.refusal.WordsRefusal.TheVariants.{Words, Memory}
-use Rattle.wsm_words.specs.Words.{AnswersFaults, IsByFault, IsMemory, Tells}
+use Rattle.wsm_words.specs.Words.{IsByFault, IsMemory, Tells}
 
 -- want of memory is told as such
 pub told_memory : (e : Error) (refusal : WordsRefusal) → Tells e refusal → kind_of e ≡ OutOfMemory → IsMemory refusal
@@ -18,12 +17,3 @@ pub told_fault : (faults : Kinds) (e : Error) (refusal : WordsRefusal) → Tells
 told_fault faults e (Words told) tells (inl memory) = absurd (tells.1 memory)
 told_fault faults e (Words told) tells (inr among) = subst (λ (x : Error). IsAmong (kind_of x) faults) (sym tells.0) among
 told_fault faults e Memory tells has = tt
-
-pub memory_is_no_fault : (faults : Kinds) (refusal : WordsRefusal) → IsMemory refusal → IsByFault faults refusal
-memory_is_no_fault faults (Words e) memory = absurd memory
-memory_is_no_fault faults Memory memory = tt
-
--- words with no fault, whose job is told unless memory is wanted
-pub no_fault : (faults : Kinds) (answer : Result Job WordsRefusal) → faults ≡ [] → IfErr answer IsMemory → AnswersFaults faults answer
-no_fault faults (Ok job) none memory = none
-no_fault faults (Err e) none memory = memory_is_no_fault faults e memory

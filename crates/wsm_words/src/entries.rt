@@ -1,11 +1,10 @@
 //! What a parse gives of the words behind a command.
 
-ghost use Rattle.std.specs.Prelude.{◌≡◌, IfOk, IfErr, option_map, string_bytes};
+ghost use Rattle.std.specs.Prelude.{◌≡◌, IfOk, option_map, string_bytes};
 ghost use Rattle.clap.specs.Words.{one_of, found_of, rows_of as entries_of};
-ghost use Rattle.wsm_words.specs.Words.{HasOption, IsMemory, IsNamed, Names, NamesRows, SaysFlag, rows_named};
+ghost use Rattle.wsm_words.specs.Words.{HasOption, IsNamed, Names, NamesRows, SaysFlag, rows_named};
 
 use crate::job::Named;
-use crate::refusal::WordsRefusal;
 use clap::ArgMatches;
 use std::alloc::{AllocError, Global};
 
@@ -29,21 +28,19 @@ pub fn option_of(
 }
 
 /// The name of a file, or another text, that a parse gives: its words have one.
-pub fn file_of(alloc: Global, inner: &ArgMatches<'_>, id: &str) -> Result<String, WordsRefusal>
-    ensures named { IfOk result (Names (entries_of (found_of inner.now)) id.now) }
-    ensures refused { IfErr result IsMemory }
+pub fn file_of(alloc: Global, inner: &ArgMatches<'_>, id: &str) -> Result<String, AllocError>
+    ensures { IfOk result (Names (entries_of (found_of inner.now)) id.now) }
 {
     match text_of(alloc, inner.get_str(id))? {
         Some(name) => Ok(name),
         // This doesn't come: `file` and `needed` have each of them required, so `clap` refuses words without one.
-        None => Err(WordsRefusal::Memory),
+        None => Err(AllocError),
     }
 }
 
 /// The keys that a parse names.
-pub fn named_in(alloc: Global, inner: &ArgMatches<'_>) -> Result<Named, WordsRefusal>
-    ensures named { IfOk result (IsNamed (entries_of (found_of inner.now))) }
-    ensures refused { IfErr result IsMemory }
+pub fn named_in(alloc: Global, inner: &ArgMatches<'_>) -> Result<Named, AllocError>
+    ensures { IfOk result (IsNamed (entries_of (found_of inner.now))) }
 {
     let file = option_of(alloc, inner, "keys")?;
     let takes_new = flag_of(inner, "new-keys");

@@ -1,56 +1,67 @@
 //! The job of a parse.
 
-ghost use Rattle.std.specs.Prelude.{IfOk, IfErr, codes};
+ghost use Rattle.std.specs.Prelude.{IfOk, codes};
 ghost use Rattle.clap.specs.Words.{found_of, rows_of as entries_of, subcommand_rows_of};
 ghost use Rattle.wsm_words.specs.Following.{IsFollowed, IsFollowing};
-ghost use Rattle.wsm_words.specs.Words.{IsAgreement, IsJob, IsJobOf, IsMemory};
+ghost use Rattle.wsm_words.specs.Words.{IsAgreement, IsJob, IsJobOf};
 
 use crate::entries::{file_of, flag_of, named_in, option_of, rows_in};
 use crate::job::{
     Agreement, CompileJob, DealJob, ExplainJob, Job, KeepJob, LiveJob, MigrateJob, RowsJob, RunJob,
     VerifyJob, WatermarksJob,
 };
-use crate::refusal::WordsRefusal;
 use clap::ArgMatches;
-use std::alloc::Global;
+use std::alloc::{AllocError, Global};
 
 /// The job of a parse.
-pub fn job_of(alloc: Global, matches: &ArgMatches<'_>) -> Result<Job, WordsRefusal>
-    ensures job { IfOk result (IsJobOf (subcommand_rows_of matches.now)) }
-    ensures refused { IfErr result IsMemory }
+pub fn job_of(alloc: Global, matches: &ArgMatches<'_>) -> Result<Job, AllocError>
+    ensures { IfOk result (IsJobOf (subcommand_rows_of matches.now)) }
 {
     match matches.subcommand() {
         Some((name, inner)) => named_job(alloc, name, inner),
         // This doesn't come: the program's command requires a subcommand.
-        None => Err(WordsRefusal::Memory),
+        None => Err(AllocError),
     }
 }
 
 // The job of the words behind the name of a subcommand.
-fn named_job(alloc: Global, name: &str, inner: &ArgMatches<'_>) -> Result<Job, WordsRefusal>
-    ensures job { IfOk result (IsJob name.now (entries_of (found_of inner.now))) }
-    ensures refused { IfErr result IsMemory }
+fn named_job(alloc: Global, name: &str, inner: &ArgMatches<'_>) -> Result<Job, AllocError>
+    ensures { IfOk result (IsJob name.now (entries_of (found_of inner.now))) }
 {
     match name {
         "run" => run_job(alloc, inner),
-        "compile" => compile_job(alloc, inner),
-        "migrate" => migrate_job(alloc, inner),
-        "verify" => verify_job(alloc, inner),
-        "explain" => explain_job(alloc, inner),
+        "compile" => Ok(Job::Compile(CompileJob {
+            query: file_of(alloc, inner, "query")?,
+            out: file_of(alloc, inner, "out")?,
+        })),
+        "migrate" => Ok(Job::Migrate(MigrateJob {
+            program: file_of(alloc, inner, "program")?,
+            out: file_of(alloc, inner, "out")?,
+        })),
+        "verify" => Ok(Job::Verify(VerifyJob {
+            query: flag_of(inner, "query"),
+            from: option_of(alloc, inner, "from")?,
+            keys: option_of(alloc, inner, "keys")?,
+            program: file_of(alloc, inner, "program")?,
+        })),
+        "explain" => Ok(Job::Explain(ExplainJob {
+            json: flag_of(inner, "json"),
+            query: flag_of(inner, "query"),
+            program: file_of(alloc, inner, "program")?,
+        })),
         "deal" => deal_job(alloc, inner),
         "rows" => rows_job(alloc, inner),
         "keep" => keep_job(alloc, inner),
         "watermarks" => watermarks_job(alloc, inner),
         "live" => live_job(alloc, inner),
         // This doesn't come: the program's command has no other subcommand.
-        _ => Err(WordsRefusal::Memory),
+        _ => Err(AllocError),
     }
 }
 
 // The job of the words behind `run`.
-fn run_job(alloc: Global, inner: &ArgMatches<'_>) -> Result<Job, WordsRefusal>
-    ensures job { IfOk result (IsJob (codes "run") (entries_of (found_of inner.now))) }
-    ensures refused { IfErr result IsMemory }
+fn run_job(alloc: Global, inner: &ArgMatches<'_>) -> Result<Job, AllocError>
+    ensures { IfOk result (IsJob (codes "run") (entries_of (found_of inner.now))) }
 {
     Ok(Job::Run(RunJob {
         program: flag_of(inner, "program"),
@@ -62,57 +73,9 @@ fn run_job(alloc: Global, inner: &ArgMatches<'_>) -> Result<Job, WordsRefusal>
     }))
 }
 
-// The job of the words behind `compile`.
-fn compile_job(alloc: Global, inner: &ArgMatches<'_>) -> Result<Job, WordsRefusal>
-    ensures job { IfOk result (IsJob (codes "compile") (entries_of (found_of inner.now))) }
-    ensures refused { IfErr result IsMemory }
-{
-    Ok(Job::Compile(CompileJob {
-        query: file_of(alloc, inner, "query")?,
-        out: file_of(alloc, inner, "out")?,
-    }))
-}
-
-// The job of the words behind `migrate`.
-fn migrate_job(alloc: Global, inner: &ArgMatches<'_>) -> Result<Job, WordsRefusal>
-    ensures job { IfOk result (IsJob (codes "migrate") (entries_of (found_of inner.now))) }
-    ensures refused { IfErr result IsMemory }
-{
-    Ok(Job::Migrate(MigrateJob {
-        program: file_of(alloc, inner, "program")?,
-        out: file_of(alloc, inner, "out")?,
-    }))
-}
-
-// The job of the words behind `verify`.
-fn verify_job(alloc: Global, inner: &ArgMatches<'_>) -> Result<Job, WordsRefusal>
-    ensures job { IfOk result (IsJob (codes "verify") (entries_of (found_of inner.now))) }
-    ensures refused { IfErr result IsMemory }
-{
-    Ok(Job::Verify(VerifyJob {
-        query: flag_of(inner, "query"),
-        from: option_of(alloc, inner, "from")?,
-        keys: option_of(alloc, inner, "keys")?,
-        program: file_of(alloc, inner, "program")?,
-    }))
-}
-
-// The job of the words behind `explain`.
-fn explain_job(alloc: Global, inner: &ArgMatches<'_>) -> Result<Job, WordsRefusal>
-    ensures job { IfOk result (IsJob (codes "explain") (entries_of (found_of inner.now))) }
-    ensures refused { IfErr result IsMemory }
-{
-    Ok(Job::Explain(ExplainJob {
-        json: flag_of(inner, "json"),
-        query: flag_of(inner, "query"),
-        program: file_of(alloc, inner, "program")?,
-    }))
-}
-
 // The job of the words behind `deal`.
-fn deal_job(alloc: Global, inner: &ArgMatches<'_>) -> Result<Job, WordsRefusal>
-    ensures job { IfOk result (IsJob (codes "deal") (entries_of (found_of inner.now))) }
-    ensures refused { IfErr result IsMemory }
+fn deal_job(alloc: Global, inner: &ArgMatches<'_>) -> Result<Job, AllocError>
+    ensures { IfOk result (IsJob (codes "deal") (entries_of (found_of inner.now))) }
 {
     Ok(Job::Deal(DealJob {
         keys_of: flag_of(inner, "keys-of"),
@@ -124,9 +87,8 @@ fn deal_job(alloc: Global, inner: &ArgMatches<'_>) -> Result<Job, WordsRefusal>
 }
 
 // The job of the words behind `rows`.
-fn rows_job(alloc: Global, inner: &ArgMatches<'_>) -> Result<Job, WordsRefusal>
-    ensures job { IfOk result (IsJob (codes "rows") (entries_of (found_of inner.now))) }
-    ensures refused { IfErr result IsMemory }
+fn rows_job(alloc: Global, inner: &ArgMatches<'_>) -> Result<Job, AllocError>
+    ensures { IfOk result (IsJob (codes "rows") (entries_of (found_of inner.now))) }
 {
     Ok(Job::Rows(RowsJob {
         program: flag_of(inner, "program"),
@@ -137,9 +99,8 @@ fn rows_job(alloc: Global, inner: &ArgMatches<'_>) -> Result<Job, WordsRefusal>
 }
 
 // The job of the words behind `keep`.
-fn keep_job(alloc: Global, inner: &ArgMatches<'_>) -> Result<Job, WordsRefusal>
-    ensures job { IfOk result (IsJob (codes "keep") (entries_of (found_of inner.now))) }
-    ensures refused { IfErr result IsMemory }
+fn keep_job(alloc: Global, inner: &ArgMatches<'_>) -> Result<Job, AllocError>
+    ensures { IfOk result (IsJob (codes "keep") (entries_of (found_of inner.now))) }
 {
     Ok(Job::Keep(KeepJob {
         program: flag_of(inner, "program"),
@@ -151,9 +112,8 @@ fn keep_job(alloc: Global, inner: &ArgMatches<'_>) -> Result<Job, WordsRefusal>
 }
 
 // The job of the words behind `watermarks`.
-fn watermarks_job(alloc: Global, inner: &ArgMatches<'_>) -> Result<Job, WordsRefusal>
-    ensures job { IfOk result (IsJob (codes "watermarks") (entries_of (found_of inner.now))) }
-    ensures refused { IfErr result IsMemory }
+fn watermarks_job(alloc: Global, inner: &ArgMatches<'_>) -> Result<Job, AllocError>
+    ensures { IfOk result (IsJob (codes "watermarks") (entries_of (found_of inner.now))) }
 {
     Ok(Job::Watermarks(WatermarksJob {
         program: flag_of(inner, "program"),
@@ -168,9 +128,8 @@ fn watermarks_job(alloc: Global, inner: &ArgMatches<'_>) -> Result<Job, WordsRef
 }
 
 // The agreement of clocks that a parse gives.
-fn agreement_of(alloc: Global, inner: &ArgMatches<'_>) -> Result<Agreement, WordsRefusal>
-    ensures agreement { IfOk result (IsAgreement (entries_of (found_of inner.now))) }
-    ensures refused { IfErr result IsMemory }
+fn agreement_of(alloc: Global, inner: &ArgMatches<'_>) -> Result<Agreement, AllocError>
+    ensures { IfOk result (IsAgreement (entries_of (found_of inner.now))) }
 {
     Ok(Agreement {
         agree: option_of(alloc, inner, "agree")?,
@@ -198,9 +157,8 @@ struct Followed {
 }
 
 // The job of the words behind `live`.
-fn live_job(alloc: Global, inner: &ArgMatches<'_>) -> Result<Job, WordsRefusal>
-    ensures job { IfOk result (IsJob (codes "live") (entries_of (found_of inner.now))) }
-    ensures refused { IfErr result IsMemory }
+fn live_job(alloc: Global, inner: &ArgMatches<'_>) -> Result<Job, AllocError>
+    ensures { IfOk result (IsJob (codes "live") (entries_of (found_of inner.now))) }
 {
     let program = flag_of(inner, "program");
     let position = flag_of(inner, "position");
@@ -230,9 +188,8 @@ fn live_job(alloc: Global, inner: &ArgMatches<'_>) -> Result<Job, WordsRefusal>
 }
 
 // How a log is followed, by a parse.
-fn following_of(alloc: Global, inner: &ArgMatches<'_>) -> Result<Following, WordsRefusal>
-    ensures following { IfOk result (IsFollowing (entries_of (found_of inner.now))) }
-    ensures refused { IfErr result IsMemory }
+fn following_of(alloc: Global, inner: &ArgMatches<'_>) -> Result<Following, AllocError>
+    ensures { IfOk result (IsFollowing (entries_of (found_of inner.now))) }
 {
     Ok(Following {
         lost: option_of(alloc, inner, "lost")?,
@@ -243,9 +200,8 @@ fn following_of(alloc: Global, inner: &ArgMatches<'_>) -> Result<Following, Word
 }
 
 // What is followed, and where, by a parse.
-fn followed_of(alloc: Global, inner: &ArgMatches<'_>) -> Result<Followed, WordsRefusal>
-    ensures followed { IfOk result (IsFollowed (entries_of (found_of inner.now))) }
-    ensures refused { IfErr result IsMemory }
+fn followed_of(alloc: Global, inner: &ArgMatches<'_>) -> Result<Followed, AllocError>
+    ensures { IfOk result (IsFollowed (entries_of (found_of inner.now))) }
 {
     Ok(Followed {
         dir: file_of(alloc, inner, "dir")?,

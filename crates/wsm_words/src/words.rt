@@ -27,5 +27,6 @@ pub fn command_of(alloc: Global, words: &[&str]) -> Result<Job, WordsRefusal>
 {
     let version = version_text(alloc)?;
     let matches = wsm_command(alloc, version.as_str())?.try_get_matches_from(words)?;
-    job_of(alloc, &matches)
+    let job = job_of(alloc, &matches)?;
+    Ok(job)
 }

@@ -1,9 +1,9 @@
 use Rattle.std.proofs.lemmas.Result.{err_from_is_err_and}
-use Rattle.std.proofs.Common.{◌≡◌, ◌∙◌, subst, sym, ap, refl, true, map, List, Option, IfOk}
+use Rattle.std.proofs.Common.{◌≡◌, ◌∙◌, subst, sym, ap, refl, true, map, List, Option}
 use Rattle.clap.specs.Words.{App, HasKind, Row, Text, fault_of, is_simple, is_simple_and_free, subcommand_of, takes}
 use Rattle.clap.proofs.OnLiterals.{clap_on_literals}
 use Rattle.wsm_words.specs.Words.{the_app, file_rule, flag_rule, needed_rule, option_rule, other_rule, rows_rule, IsJobOf}
-use Rattle.wsm_words.proofs.Faults.{told_memory, told_fault, no_fault}
+use Rattle.wsm_words.proofs.Faults.{told_memory, told_fault}
 use Rattle.wsm_words.proofs.words.command_of.Goals as goal
 
 simple : is_simple the_app ≡ true
@@ -19,7 +19,7 @@ returns-clause-job c =
     let wsm_is = c.in_ok-wsm_command.ensures in
     let words : List Text = map (λ s. s.now) c.args.words.now in
     let entered = (c.in_ok-matches.ensures.matches (ap is_simple wsm_is ∙ simple)).1 ∙ ap (λ (a : App). subcommand_of a words) wsm_is in
-    subst (λ (o : Option (Text × List Row)). IfOk c.job_of.result (IsJobOf o)) entered c.job_of.ensures.job
+    subst (λ (o : Option (Text × List Row)). IsJobOf o c.in_ok-job.job) entered c.in_ok-job.ensures
 
 -- words that are taken are refused for want of memory alone
 pub returns-in_err-matches-clause-refused : goal.returns-in_err-matches-clause-refused
@@ -40,4 +40,4 @@ pub returns-clause-faults : goal.returns-clause-faults
 returns-clause-faults c =
     let wsm_is = c.in_ok-wsm_command.ensures in
     let words : List Text = map (λ s. s.now) c.args.words.now in
-    no_fault _ c.job_of.result (ap (λ (a : App). fault_of a words) (sym wsm_is) ∙ c.in_ok-matches.ensures.kinds (ap is_simple_and_free wsm_is ∙ free)) c.job_of.ensures.refused
+    ap (λ (a : App). fault_of a words) (sym wsm_is) ∙ c.in_ok-matches.ensures.kinds (ap is_simple_and_free wsm_is ∙ free)
