@@ -1,5 +1,5 @@
 -- What holds of each part, where the parts are gone through one by one.
-use Rattle.std.proofs.Common.{◌≡◌, ◌≢◌, ◌+◌, ◌<◌, ◌≤◌, ◌∷◌, ◌++◌, [], ℕ, List, Option, Some, refl, sym, subst, inl, inr, arith, length, Bool, true, false, Ok, Err, ◌⊎◌}
+use Rattle.std.proofs.Common.{◌≡◌, ◌≢◌, ◌+◌, ◌<◌, ◌≤◌, ◌∷◌, ◌++◌, [], ℕ, List, Option, Some, Result, refl, sym, subst, inl, inr, arith, length, Bool, true, false, Ok, Err, ◌⊎◌}
 use Rattle.std.specs.Prelude.{slice_get, slice_set}
 use Rattle.std.specs.Io.KnownBytes.{Appends}
 use Rattle.std.proofs.lemmas.Bool.{cases_lt, eq-eqb, ne_eqb}
@@ -7,8 +7,11 @@ use Rattle.std.proofs.lemmas.Option.{slice_get_within}
 use Rattle.wsm_csv.specs.Device.{TakesPart}
 use Rattle.wsm_csv.proofs.Written.{TakesPart-all}
 use Rattle.wsm_deal.specs.PartText.{part_text}
-use Rattle.wsm_deal.specs.Parts.{Befores, Hands, Has, NoneFailed, SomeFailed, one_more_for}
+use Rattle.wsm_deal.specs.Parts.{Befores, Hands, Has, NoneFailed, SomeFailed, Tells, one_more}
+use Rattle.wsm_deal.specs.declared.dealing.DealEnd.{DealEnd}
+use Rattle.wsm_deal.specs.declared.dealing.DealEnd.TheVariants.{Memory, WriteFailed}
 use Rattle.wsm_deal.specs.declared.part.Part.{Part}
+use Rattle.wsm_deal.specs.declared.shares.Goal.TheVariants.{One}
 use Rattle.wsm_deal.proofs.Lists.{at_push, at_set, set_there}
 use Rattle.wsm_deal.proofs.PartTexts.{Has-part, part-longer}
 
@@ -66,10 +69,29 @@ set_flushed {D} flushed parts i p first here =
     each_set (λ (k : ℕ) (q : Part D). k < i → flushed q.out ≡ true) (λ (k : ℕ) (q : Part D). k < i + 1 → flushed q.out ≡ true) parts i p first (λ lt. here)
     (λ k q other h lt. h (omega (arith, lt, other)))
 
--- or its failure is told
-pub set_told : {D : Type 0} (failed : D → Bool) (parts : List (Part D)) (i : ℕ) (p : Part D) {T : Type 0} → NoneFailed failed parts → T ⊎ (failed p.out ≡ false) → T ⊎ NoneFailed failed (slice_set parts i p)
+set_told : {D : Type 0} (failed : D → Bool) (parts : List (Part D)) (i : ℕ) (p : Part D) {T : Type 0} → NoneFailed failed parts → T ⊎ (failed p.out ≡ false) → T ⊎ NoneFailed failed (slice_set parts i p)
 set_told failed parts i p works (inl told) = inl told
 set_told failed parts i p works (inr here) = inr (set_works failed parts i p works here)
+
+-- what is told of its device is told of them all
+pub set_tells : {D U : Type 0} (failed : D → Bool) (parts : List (Part D)) (i : ℕ) (p : Part D) (result : Result U DealEnd) → i < length parts → NoneFailed failed parts → Tells (failed p.out ≡ true) (failed p.out ≡ false) result
+    → Tells (SomeFailed failed (slice_set parts i p)) (NoneFailed failed (slice_set parts i p)) result
+set_tells failed parts i p result within works here = record {
+  reads_none = here.reads_none;
+  write_failed = λ told. some_set failed parts i p within (here.write_failed told);
+  works = set_told failed parts i p works here.works;
+}
+
+-- nothing is told where all went well, nor for want of memory
+pub tells_ok : {U Fails Works : Type 0} (v : U) → Works → Tells Fails Works (Ok v)
+tells_ok v works = record { reads_none = λ h. cc; write_failed = λ h. absurd (cc); works = inr works }
+
+pub tells_memory : {U Fails Works : Type 0} → Works → Tells {U = U} Fails Works (Err Memory)
+tells_memory works = record { reads_none = λ h. cc; write_failed = λ h. absurd (cc); works = inr works }
+
+-- a write that failed is told
+pub tells_fault : {U Fails Works : Type 0} → Fails → Tells {U = U} Fails Works (Err WriteFailed)
+tells_fault fails = record { reads_none = λ h. cc; write_failed = λ h. fails; works = inl refl }
 
 -- a call that was done told no failure
 pub held : {T E P : Type 0} (v : T) (e : E) → (Ok v ≡ Err e) ⊎ P → P
@@ -104,11 +126,11 @@ module _ {D : Type 0} (taken : D → Option (List ℕ)) (olds : Befores) (hands 
   more_began row k p has = part-longer (olds k) (taken p.out) (hands k) row (has_began k p has)
 
   -- with a row more for one part
-  pub more_for : (row : List (List ℕ)) (n : ℕ) (p : Part D) → Has taken (olds n) (hands n ++ row ∷ []) p → Has taken (olds n) (one_more_for n hands row n) p
+  pub more_for : (row : List (List ℕ)) (n : ℕ) (p : Part D) → Has taken (olds n) (hands n ++ row ∷ []) p → Has taken (olds n) (one_more (One n) row hands n) p
   more_for row n p has = rw (eq-eqb n n refl) has
 
-  pub more_for_began : (row : List (List ℕ)) (n : ℕ) (p : Part D) → TakesPart (olds n) (taken p.out) (part_text (hands n ++ row ∷ [])) → TakesPart (olds n) (taken p.out) (part_text (one_more_for n hands row n))
+  pub more_for_began : (row : List (List ℕ)) (n : ℕ) (p : Part D) → TakesPart (olds n) (taken p.out) (part_text (hands n ++ row ∷ [])) → TakesPart (olds n) (taken p.out) (part_text (one_more (One n) row hands n))
   more_for_began row n p began = rw (eq-eqb n n refl) began
 
-  pub same_for : (row : List (List ℕ)) (n k : ℕ) (p : Part D) → k ≢ n → HasAt k p → Has taken (olds k) (one_more_for n hands row k) p
+  pub same_for : (row : List (List ℕ)) (n k : ℕ) (p : Part D) → k ≢ n → HasAt k p → Has taken (olds k) (one_more (One n) row hands k) p
   same_for row n k p other has = rw (ne_eqb k n other) has

@@ -1,10 +1,9 @@
 -- Where rows go, and what that makes of the rows of each part.
-use Rattle.std.proofs.Common.{◌≡◌, ◌==◌, ◌∷◌, ◌++◌, [], ℕ, List, refl, ◌∙◌, inl, inr}
+use Rattle.std.proofs.Common.{◌≡◌, ◌∷◌, ◌++◌, [], ℕ, List, inl, inr}
 use Rattle.std.specs.Prelude.{if◌then◌else◌}
 use Rattle.std.proofs.lemmas.Bool.{cases_Bool}
 use Rattle.indexmap.proofs.SetLemmas.{filter_keep, filter_skip}
 use Rattle.wsm_deal.specs.Deal.{Sharing, dealt_to, goal_of, is_for}
-use Rattle.wsm_deal.specs.declared.shares.Goal.TheVariants.{One, All}
 
 -- the rows of a part with one row more
 pub dealt_more : (s : Sharing) (k : ℕ) (rows : List (List (List ℕ))) (row : List (List ℕ))
@@ -13,12 +12,3 @@ dealt_more s k rows row = elim (cases_Bool (is_for k (goal_of s row))) [
   | inl for ↦ rw for (filter_keep (λ r. is_for k (goal_of s r)) rows row for)
   | inr not_for ↦ rw not_for (filter_skip (λ r. is_for k (goal_of s r)) rows row not_for)
 ]
-
--- where it goes to one part
-pub dealt_one : (s : Sharing) (n k : ℕ) (rows : List (List (List ℕ))) (row : List (List ℕ)) → goal_of s row ≡ One n
-    → dealt_to s k (rows ++ row ∷ []) ≡ (if k == n then dealt_to s k rows ++ row ∷ [] else dealt_to s k rows)
-dealt_one s n k rows row e = dealt_more s k rows row ∙ rw e refl
-
--- where it goes to each
-pub dealt_all : (s : Sharing) (k : ℕ) (rows : List (List (List ℕ))) (row : List (List ℕ)) → goal_of s row ≡ All → dealt_to s k (rows ++ row ∷ []) ≡ dealt_to s k rows ++ row ∷ []
-dealt_all s k rows row e = dealt_more s k rows row ∙ rw e refl

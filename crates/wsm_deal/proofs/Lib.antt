@@ -6,6 +6,7 @@ pub mod FirstRows
 mod Shared
 mod Lists
 mod EachPart
+mod DealtRows
 mod ReadBack
 mod KeysOf
 mod BlockNumbers

@@ -1,3 +1,4 @@
+pub mod Adding
 pub mod Deal
 pub mod Keys
 pub mod KeysText

@@ -1,10 +1,11 @@
 //! Dealing the rows of a reader.
 
-ghost use Rattle.std.specs.Prelude.{◌≡◌, ◌≢◌, ◌⊎◌, ◌++◌, ◌∷◌, ℕ, List, [], Option, Err, IfOk, IfErr, OnErr, OnOk, false, map};
+ghost use Rattle.std.specs.Prelude.{◌≡◌, ◌⊎◌, ◌++◌, ◌∷◌, ℕ, List, [], Option, Err, IfOk, IfErr, OnOk, false, map};
 ghost use Rattle.csv.specs.Records.{fields_of};
 ghost use Rattle.wsm_csv.specs.Records.{AreAll};
 ghost use Rattle.wsm_csv.specs.Rows.{Follows, error_of, read_end};
-ghost use Rattle.wsm_deal.specs.Parts.{AreNew, Befores, Dealt, EachBegan, EachFlushed, EachHas, EachTook, EndsEarly, Hands, NoneFailed, SomeFailed, bytes_of, hands_of, one_more_each, one_more_for, out_of, with_row};
+ghost use Rattle.wsm_deal.specs.Deal.{goal_of};
+ghost use Rattle.wsm_deal.specs.Parts.{AreNew, Befores, Deals, Dealt, EachFlushed, EachHas, EachTook, EndsEarly, GivesEach, NoneFailed, SomeFailed, bytes_of, hands_of, out_of};
 
 use crate::ahead::Ahead;
 use crate::part::Part;
@@ -175,10 +176,7 @@ fn pass_on<R: Read + Drop, D: Device>(
     parts: &mut [Part<D>],
 ) -> Result<(), DeviceFault>
     requires works { NoneFailed D.has_failed parts.old }
-    ensures kept { (olds : Befores) (hands : Hands) → EachHas D.taken olds hands parts.old → OnOk result (EachHas D.taken olds hands parts.new) }
-    ensures works { OnOk result (NoneFailed D.has_failed parts.new) }
-    ensures began { (olds : Befores) (hands : Hands) → EachHas D.taken olds hands parts.old → OnErr result (EachBegan D.taken olds hands parts.new) }
-    ensures fails { OnErr result (SomeFailed D.has_failed parts.new) }
+    ensures { GivesEach D.taken D.has_failed (EachHas D.taken) parts.old parts.new result }
 {
     if rows.source().may_wait(rows.place()) {
         return hand_on(parts);
@@ -195,13 +193,7 @@ fn deal_row<D: Device>(
     text: &mut Vec<u8>,
 ) -> Result<(), DealEnd>
     requires works { NoneFailed D.has_failed parts.old }
-    ensures dealt { (olds : Befores) (rows : List (List (List ℕ))) → EachHas D.taken olds (hands_of shares.now rows) parts.old →
-        OnOk result (EachHas D.taken olds (hands_of shares.now (with_row rows (fields_of row.now))) parts.new) }
-    ensures began { (olds : Befores) (rows : List (List (List ℕ))) → EachHas D.taken olds (hands_of shares.now rows) parts.old →
-        OnErr result (EachBegan D.taken olds (hands_of shares.now (with_row rows (fields_of row.now))) parts.new) }
-    ensures reads_none { result ≢ Err DealEnd.ReadFailed }
-    ensures write_failed { result ≡ Err DealEnd.WriteFailed → SomeFailed D.has_failed parts.new }
-    ensures works { (result ≡ Err DealEnd.WriteFailed) ⊎ NoneFailed D.has_failed parts.new }
+    ensures { Deals D.taken D.has_failed (goal_of shares.now (fields_of row.now)) (fields_of row.now) parts.old parts.new result }
 {
     match shares.goal_of(row) {
         Goal::One(part) => deal_to_one(part, row, parts),
@@ -217,13 +209,7 @@ fn deal_to_one<D: Device>(
     parts: &mut [Part<D>],
 ) -> Result<(), DealEnd>
     requires works { NoneFailed D.has_failed parts.old }
-    ensures dealt { (olds : Befores) (hands : Hands) → EachHas D.taken olds hands parts.old →
-        OnOk result (EachHas D.taken olds (one_more_for part hands (fields_of row.now)) parts.new) }
-    ensures began { (olds : Befores) (hands : Hands) → EachHas D.taken olds hands parts.old →
-        OnErr result (EachBegan D.taken olds (one_more_for part hands (fields_of row.now)) parts.new) }
-    ensures reads_none { result ≢ Err DealEnd.ReadFailed }
-    ensures write_failed { result ≡ Err DealEnd.WriteFailed → SomeFailed D.has_failed parts.new }
-    ensures works { (result ≡ Err DealEnd.WriteFailed) ⊎ NoneFailed D.has_failed parts.new }
+    ensures { Deals D.taken D.has_failed (Goal.One part) (fields_of row.now) parts.old parts.new result }
 {
     if part < parts.len() {
         parts[part].add(row)?;
@@ -239,13 +225,7 @@ fn deal_to_all<D: Device>(
     text: &mut Vec<u8>,
 ) -> Result<(), DealEnd>
     requires works { NoneFailed D.has_failed parts.old }
-    ensures dealt { (olds : Befores) (hands : Hands) → EachHas D.taken olds hands parts.old →
-        OnOk result (EachHas D.taken olds (one_more_each hands (fields_of row.now)) parts.new) }
-    ensures began { (olds : Befores) (hands : Hands) → EachHas D.taken olds hands parts.old →
-        OnErr result (EachBegan D.taken olds (one_more_each hands (fields_of row.now)) parts.new) }
-    ensures reads_none { result ≢ Err DealEnd.ReadFailed }
-    ensures write_failed { result ≡ Err DealEnd.WriteFailed → SomeFailed D.has_failed parts.new }
-    ensures works { (result ≡ Err DealEnd.WriteFailed) ⊎ NoneFailed D.has_failed parts.new }
+    ensures { Deals D.taken D.has_failed Goal.All (fields_of row.now) parts.old parts.new result }
 {
     text.clear();
     add_row(row, text)?;
@@ -261,10 +241,7 @@ fn deal_to_all<D: Device>(
 #[inline(never)]
 fn hand_on<D: Device>(parts: &mut [Part<D>]) -> Result<(), DeviceFault>
     requires works { NoneFailed D.has_failed parts.old }
-    ensures kept { (olds : Befores) (hands : Hands) → EachHas D.taken olds hands parts.old → OnOk result (EachHas D.taken olds hands parts.new) }
-    ensures works { OnOk result (NoneFailed D.has_failed parts.new) }
-    ensures began { (olds : Befores) (hands : Hands) → EachHas D.taken olds hands parts.old → OnErr result (EachBegan D.taken olds hands parts.new) }
-    ensures fails { OnErr result (SomeFailed D.has_failed parts.new) }
+    ensures { GivesEach D.taken D.has_failed (EachHas D.taken) parts.old parts.new result }
 {
     for part in parts.iter_mut() {
         part.hand_on()?;
@@ -275,11 +252,8 @@ fn hand_on<D: Device>(parts: &mut [Part<D>]) -> Result<(), DeviceFault>
 // Gives each device the text that it wasn't handed, and has all that it took leave.
 fn finish<D: Device>(parts: &mut [Part<D>]) -> Result<(), DeviceFault>
     requires works { NoneFailed D.has_failed parts.old }
-    ensures took { (olds : Befores) (hands : Hands) → EachHas D.taken olds hands parts.old → OnOk result (EachTook D.taken olds hands parts.new) }
+    ensures gives { GivesEach D.taken D.has_failed (EachTook D.taken) parts.old parts.new result }
     ensures flushed { OnOk result (EachFlushed D.is_flushed parts.new) }
-    ensures works { OnOk result (NoneFailed D.has_failed parts.new) }
-    ensures began { (olds : Befores) (hands : Hands) → EachHas D.taken olds hands parts.old → OnErr result (EachBegan D.taken olds hands parts.new) }
-    ensures fails { OnErr result (SomeFailed D.has_failed parts.new) }
 {
     for part in parts.iter_mut() {
         part.finish()?;

@@ -24,13 +24,10 @@ pub struct Part<D> {
 }
 
 impl<D: Device> Part<D> {
-    ghost use Rattle.std.specs.Prelude.{◌≡◌, ◌≢◌, ◌⊎◌, ◌≤◌, ◌∷◌, ◌++◌, [], ℕ, List, length, take, Option, Err, OnOk, OnErr, true, false, if◌then◌else◌};
-    ghost use Rattle.std.specs.Io.KnownBytes.{Appends};
+    ghost use Rattle.std.specs.Prelude.{◌≡◌, ◌≤◌, ◌∷◌, ◌++◌, [], ℕ, List, length, take, Option, OnOk, true, false, if◌then◌else◌};
     ghost use Rattle.csv.specs.Records.{fields_of};
     ghost use Rattle.csv.specs.Writing.{default_writer, row_text};
-    ghost use Rattle.wsm_csv.specs.Device.{TakesPart};
-    ghost use Rattle.wsm_deal.specs.PartText.{part_text};
-    ghost use Rattle.wsm_deal.specs.Parts.{Has, out_of};
+    ghost use Rattle.wsm_deal.specs.Parts.{Gives, Has, TakesRow, Took, out_of};
 
     /// A part to which no row was dealt.
     pub fn new(alloc: Global, out: D) -> Part<D>
@@ -49,18 +46,10 @@ impl<D: Device> Part<D> {
     #[inline(always)]
     pub(crate) fn add(&mut self, row: &ByteRecord) -> Result<(), DealEnd>
         requires works { D.has_failed (out_of self.old) ≡ false }
-        ensures adds { (old : Option (List ℕ)) (rows : List (List (List ℕ))) → Has D.taken old rows self.old →
-            OnOk result (Has D.taken old (rows ++ fields_of row.now ∷ []) self.new) }
-        ensures part { (old : Option (List ℕ)) (rows : List (List (List ℕ))) → Has D.taken old rows self.old →
-            OnErr result (TakesPart old (D.taken (out_of self.new)) (part_text (rows ++ fields_of row.now ∷ []))) }
-        ensures reads_none { result ≢ Err DealEnd.ReadFailed }
-        ensures write_failed { result ≡ Err DealEnd.WriteFailed → D.has_failed (out_of self.new) ≡ true }
-        ensures works { (result ≡ Err DealEnd.WriteFailed) ⊎ (D.has_failed (out_of self.new) ≡ false) }
+        ensures { TakesRow D.taken D.has_failed (fields_of row.now) self.old self.new result }
     {
         self.keep(row)?;
-        if FULL <= self.text.len() {
-            self.hand_on()?;
-        }
+        self.hand_on_if_full()?;
         Ok(())
     }
 
@@ -74,18 +63,10 @@ impl<D: Device> Part<D> {
         requires works { D.has_failed (out_of self.old) ≡ false }
         requires text { text.now ≡ row_text default_writer (fields_of row.now) }
         requires block { length text.now ≤ BLOCK → take (length text.now) block.now ≡ text.now }
-        ensures adds { (old : Option (List ℕ)) (rows : List (List (List ℕ))) → Has D.taken old rows self.old →
-            OnOk result (Has D.taken old (rows ++ fields_of row.now ∷ []) self.new) }
-        ensures part { (old : Option (List ℕ)) (rows : List (List (List ℕ))) → Has D.taken old rows self.old →
-            OnErr result (TakesPart old (D.taken (out_of self.new)) (part_text (rows ++ fields_of row.now ∷ []))) }
-        ensures reads_none { result ≢ Err DealEnd.ReadFailed }
-        ensures write_failed { result ≡ Err DealEnd.WriteFailed → D.has_failed (out_of self.new) ≡ true }
-        ensures works { (result ≡ Err DealEnd.WriteFailed) ⊎ (D.has_failed (out_of self.new) ≡ false) }
+        ensures { TakesRow D.taken D.has_failed (fields_of row.now) self.old self.new result }
     {
         self.keep_text(row, text, block)?;
-        if FULL <= self.text.len() {
-            self.hand_on()?;
-        }
+        self.hand_on_if_full()?;
         Ok(())
     }
 
@@ -130,15 +111,22 @@ impl<D: Device> Part<D> {
         begin(row, &mut self.text)
     }
 
+    // Hands on what is kept, where that is too much.
+    fn hand_on_if_full(&mut self) -> Result<(), DeviceFault>
+        requires works { D.has_failed (out_of self.old) ≡ false }
+        ensures { Gives D.taken D.has_failed (Has D.taken) self.old self.new result }
+    {
+        if FULL <= self.text.len() {
+            return self.hand_on();
+        }
+        Ok(())
+    }
+
     /// Gives the device the text that it wasn't handed. An error is answered only where the device has failed.
     pub(crate) fn hand_on(&mut self) -> Result<(), DeviceFault>
         requires works { D.has_failed (out_of self.old) ≡ false }
-        ensures kept { (old : Option (List ℕ)) (rows : List (List (List ℕ))) → Has D.taken old rows self.old → OnOk result (Has D.taken old rows self.new) }
+        ensures gives { Gives D.taken D.has_failed (Has D.taken) self.old self.new result }
         ensures empty { OnOk result (self.new.text.items ≡ []) }
-        ensures works { OnOk result (D.has_failed (out_of self.new) ≡ false) }
-        ensures part { (old : Option (List ℕ)) (rows : List (List (List ℕ))) → Has D.taken old rows self.old →
-            OnErr result (TakesPart old (D.taken (out_of self.new)) (part_text rows)) }
-        ensures fails { OnErr result (D.has_failed (out_of self.new) ≡ true) }
     {
         if self.text.is_empty() {
             return Ok(());
@@ -152,13 +140,8 @@ impl<D: Device> Part<D> {
     /// only where the device has failed.
     pub(crate) fn finish(&mut self) -> Result<(), DeviceFault>
         requires works { D.has_failed (out_of self.old) ≡ false }
-        ensures took { (old : Option (List ℕ)) (rows : List (List (List ℕ))) → Has D.taken old rows self.old →
-            OnOk result (Appends old (D.taken (out_of self.new)) (part_text rows)) }
+        ensures gives { Gives D.taken D.has_failed (Took D.taken) self.old self.new result }
         ensures flushed { OnOk result (D.is_flushed (out_of self.new) ≡ true) }
-        ensures works { OnOk result (D.has_failed (out_of self.new) ≡ false) }
-        ensures part { (old : Option (List ℕ)) (rows : List (List (List ℕ))) → Has D.taken old rows self.old →
-            OnErr result (TakesPart old (D.taken (out_of self.new)) (part_text rows)) }
-        ensures fails { OnErr result (D.has_failed (out_of self.new) ≡ true) }
     {
         self.hand_on()?;
         self.out.flush()

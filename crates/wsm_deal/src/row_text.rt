@@ -4,6 +4,7 @@ ghost use Rattle.std.specs.Prelude.{◌≡◌, ◌<◌, ◌≤◌, ◌+◌, ◌+
 ghost use Rattle.std.specs.List.{list_any};
 ghost use Rattle.csv.specs.Records.{fields_of};
 ghost use Rattle.csv.specs.Writing as csv;
+ghost use Rattle.wsm_deal.specs.Adding.{Adds, AreFew};
 
 use csv::ByteRecord;
 use std::alloc::AllocError;
@@ -33,8 +34,7 @@ pub fn add_row(row: &ByteRecord, out: &mut Vec<u8>) -> Result<(), AllocError>
 // The first cell of a row of three to eight cells, where it is one byte that needs no quotes, as the tag of most
 // records is.
 fn short_tag(row: &ByteRecord) -> Option<u8>
-    ensures cells { IfSome result (λ _. (3 ≤ length (fields_of row.now)) × (length (fields_of row.now) ≤ FEW)) }
-    ensures tag { IfSome result (λ tag. csv.field_text csv.default_writer (get_or (fields_of row.now) 0 []) ≡ tag ∷ []) }
+    ensures { IfSome result (λ tag. AreFew tag (fields_of row.now)) }
 {
     if row.len() < 3 || FEW < row.len() {
         return None;
@@ -48,8 +48,7 @@ fn short_tag(row: &ByteRecord) -> Option<u8>
 // Adds the text of a row of three to eight cells of which the first is this byte.
 #[inline(always)]
 fn add_tagged_row(tag: u8, row: &ByteRecord, out: &mut Vec<u8>) -> Result<(), AllocError>
-    requires cells { (3 ≤ length (fields_of row.now)) × (length (fields_of row.now) ≤ FEW) }
-    requires tag { csv.field_text csv.default_writer (get_or (fields_of row.now) 0 []) ≡ tag ∷ [] }
+    requires few { AreFew tag (fields_of row.now) }
     ensures { OnOk result (out.new.items ≡ out.old.items ++ csv.row_text csv.default_writer (fields_of row.now)) }
 {
     let start = out.len();
@@ -76,11 +75,9 @@ fn make_short_room(out: &mut Vec<u8>) -> Result<(), AllocError>
 // need no quotes, as in most records, and answers whether it did. Of another one a part may be added.
 #[inline(always)]
 fn add_short_row(tag: u8, row: &ByteRecord, out: &mut Vec<u8>) -> bool
-    requires cells { (3 ≤ length (fields_of row.now)) × (length (fields_of row.now) ≤ FEW) }
-    requires tag { csv.field_text csv.default_writer (get_or (fields_of row.now) 0 []) ≡ tag ∷ [] }
+    requires few { AreFew tag (fields_of row.now) }
     requires room { vec_len out.old + SHORT_ROOM ≤ vec_capacity out.old }
-    ensures all { result ≡ true → out.new.items ≡ out.old.items ++ csv.row_text csv.default_writer (fields_of row.now) }
-    ensures kept { take (length out.old.items) out.new.items ≡ out.old.items }
+    ensures { Adds result (csv.row_text csv.default_writer (fields_of row.now)) out.old.items out.new.items }
 {
     let empty = Vec::new(*out.allocator());
     let (is_short, text) = with_short_row(tag, row, mem::replace(out, empty));
@@ -92,11 +89,9 @@ fn add_short_row(tag: u8, row: &ByteRecord, out: &mut Vec<u8>) -> bool
 // The same to a text by value, whose length can stay in a register. Four cells, as most records have, take no loop.
 #[inline(always)]
 fn with_short_row(tag: u8, row: &ByteRecord, mut text: Vec<u8>) -> (bool, Vec<u8>)
-    requires cells { (3 ≤ length (fields_of row.now)) × (length (fields_of row.now) ≤ FEW) }
-    requires tag { csv.field_text csv.default_writer (get_or (fields_of row.now) 0 []) ≡ tag ∷ [] }
+    requires few { AreFew tag (fields_of row.now) }
     requires room { vec_len text + SHORT_ROOM ≤ vec_capacity text }
-    ensures all { result.0 ≡ true → result.1.items ≡ text.items ++ csv.row_text csv.default_writer (fields_of row.now) }
-    ensures kept { take (length text.items) result.1.items ≡ text.items }
+    ensures { Adds result.0 (csv.row_text csv.default_writer (fields_of row.now)) text.items result.1.items }
 {
     if !add_three(tag, row, &mut text) {
         return (false, text);
@@ -123,8 +118,7 @@ fn add_three(tag: u8, row: &ByteRecord, out: &mut Vec<u8>) -> bool
     requires tag { csv.field_text csv.default_writer (get_or (fields_of row.now) 0 []) ≡ tag ∷ [] }
     requires room { vec_len out.old + 48 ≤ vec_capacity out.old }
     ensures room { (vec_len out.new ≤ vec_len out.old + 48) × (vec_capacity out.new ≡ vec_capacity out.old) }
-    ensures all { result ≡ true → out.new.items ≡ out.old.items ++ (csv.row_body csv.default_writer (take 3 (fields_of row.now)) ++ 44 ∷ []) }
-    ensures kept { take (length out.old.items) out.new.items ≡ out.old.items }
+    ensures adds { Adds result (csv.row_body csv.default_writer (take 3 (fields_of row.now)) ++ 44 ∷ []) out.old.items out.new.items }
 {
     push_two(tag, b',', out);
     if !add_short(cell_at(row, 1), b',', out) {
@@ -147,8 +141,7 @@ fn end_line(out: &mut Vec<u8>)
 fn add_short(cell: &[u8], end: u8, out: &mut Vec<u8>) -> bool
     requires { vec_len out.old + 16 ≤ vec_capacity out.old }
     ensures room { (vec_len out.new ≤ vec_len out.old + 16) × (vec_capacity out.new ≡ vec_capacity out.old) }
-    ensures all { result ≡ true → out.new.items ≡ out.old.items ++ (csv.field_text csv.default_writer cell.now ++ end ∷ []) }
-    ensures kept { take (length out.old.items) out.new.items ≡ out.old.items }
+    ensures adds { Adds result (csv.field_text csv.default_writer cell.now ++ end ∷ []) out.old.items out.new.items }
 {
     let behind_four = add_four(cell, out);
     let behind_eight = add_four(behind_four, out);
@@ -275,8 +268,7 @@ fn make_room(row: &ByteRecord, out: &mut Vec<u8>) -> Result<(), AllocError>
 // Adds the text of a row of two cells or more that needs no quotes, where there is room for it, and answers
 // whether it did. Of another one a part may be added.
 fn add_plain_row(row: &ByteRecord, out: &mut Vec<u8>) -> bool
-    ensures all { result ≡ true → out.new.items ≡ out.old.items ++ csv.row_text csv.default_writer (fields_of row.now) }
-    ensures kept { take (length out.old.items) out.new.items ≡ out.old.items }
+    ensures { Adds result (csv.row_text csv.default_writer (fields_of row.now)) out.old.items out.new.items }
 {
     let empty = Vec::new(*out.allocator());
     let (is_plain, text) = with_plain_row(row, mem::replace(out, empty));
@@ -286,8 +278,7 @@ fn add_plain_row(row: &ByteRecord, out: &mut Vec<u8>) -> bool
 
 // The same to a text by value, whose length can stay in a register.
 fn with_plain_row(row: &ByteRecord, mut text: Vec<u8>) -> (bool, Vec<u8>)
-    ensures all { result.0 ≡ true → result.1.items ≡ text.items ++ csv.row_text csv.default_writer (fields_of row.now) }
-    ensures kept { take (length text.items) result.1.items ≡ text.items }
+    ensures { Adds result.0 (csv.row_text csv.default_writer (fields_of row.now)) text.items result.1.items }
 {
     if row.len() < 2 || !add_plain_cell(cell_at(row, 0), &mut text) {
         return (false, text);
@@ -304,9 +295,8 @@ fn with_plain_row(row: &ByteRecord, mut text: Vec<u8>) -> (bool, Vec<u8>)
 // Adds a comma and a cell, as the next one does.
 fn add_next_cell(cell: &[u8], out: &mut Vec<u8>) -> bool
     requires { vec_len out.old < vec_capacity out.old }
-    ensures all { result ≡ true → out.new.items ≡ out.old.items ++ (44 ∷ csv.field_text csv.default_writer cell.now) }
+    ensures adds { Adds result (44 ∷ csv.field_text csv.default_writer cell.now) out.old.items out.new.items }
     ensures room { result ≡ true → vec_len out.new < vec_capacity out.new }
-    ensures kept { take (length out.old.items) out.new.items ≡ out.old.items }
 {
     out.push_reserved(b',');
     add_plain_cell(cell, out)
@@ -314,9 +304,8 @@ fn add_next_cell(cell: &[u8], out: &mut Vec<u8>) -> bool
 
 // Adds a cell that needs no quotes, where it leaves room for a byte, and answers whether it did.
 fn add_plain_cell(cell: &[u8], out: &mut Vec<u8>) -> bool
-    ensures all { result ≡ true → out.new.items ≡ out.old.items ++ csv.field_text csv.default_writer cell.now }
+    ensures adds { Adds result (csv.field_text csv.default_writer cell.now) out.old.items out.new.items }
     ensures room { result ≡ true → vec_len out.new < vec_capacity out.new }
-    ensures kept { take (length out.old.items) out.new.items ≡ out.old.items }
 {
     out.capacity() - out.len() > cell.len() && add_plain(cell, out)
 }
@@ -325,9 +314,8 @@ fn add_plain_cell(cell: &[u8], out: &mut Vec<u8>) -> bool
 fn add_plain(cell: &[u8], out: &mut Vec<u8>) -> bool
     requires { vec_len out.old + length cell.now ≤ vec_capacity out.old }
     ensures room { (vec_len out.new ≤ vec_len out.old + length cell.now) × (vec_capacity out.new ≡ vec_capacity out.old) }
-    ensures plain { result ≡ true → out.new.items ≡ out.old.items ++ cell.now }
+    ensures adds { Adds result cell.now out.old.items out.new.items }
     ensures needs { result ≡ not (csv.needs_quotes csv.default_writer cell.now) }
-    ensures kept { take (length out.old.items) out.new.items ≡ out.old.items }
 {
     for place in 0..cell.len() {
         let byte = cell[place];
