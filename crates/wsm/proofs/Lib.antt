@@ -1,4 +1,3 @@
-pub mod TurnLines
 pub mod RowTurns
 pub mod Texts
 pub mod SameText

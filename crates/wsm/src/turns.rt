@@ -1,6 +1,6 @@
 //! The turns of a run.
 
-ghost use Rattle.std.specs.Prelude.{◌≡◌, ◌++◌, Some, OnOk};
+ghost use Rattle.std.specs.Prelude.{◌≡◌, ◌++◌, OnOk};
 ghost use Rattle.wsm_semantics.specs.Lines.{refusal_lines};
 ghost use Rattle.wsm_record.specs.Schema.{Declared};
 ghost use Rattle.wsm_semantics.specs.Text.{lines_text};
@@ -88,10 +88,7 @@ impl Turns {
             OnOk result (self.new.lines.items ≡ self.old.lines.items ++ lines_text declared (refusal_lines (counter (length rows)) refusal)) }
         ensures others { self.new ≡ record self.old { lines = self.new.lines } }
     {
-        match refusal {
-            Some(why) => add_refusal(self.row_count(), why, &mut self.lines),
-            None => Ok(()),
-        }
+        refusal_text(self.row_count(), refusal, &mut self.lines)
     }
 
     // The turn of a row that is no event.
@@ -148,15 +145,5 @@ impl Turns {
             refused: self.faults.saturating_add(totals.refused),
             panes: totals.panes,
         }
-    }
-}
-
-// Adds the line of a refusal; a late record has none.
-fn add_refusal(row: u64, why: Refusal, lines: &mut Vec<u8>) -> Result<(), AllocError>
-    ensures { (declared : Declared) → OnOk result (lines.new.items ≡ lines.old.items ++ lines_text declared (refusal_lines row (Some why))) }
-{
-    match why {
-        Refusal::Late => Ok(()),
-        _ => refusal_text(row, why, lines),
     }
 }

@@ -5,3 +5,4 @@ pub mod CellLemmas
 pub mod LineLemmas
 pub mod WordLemmas
 pub mod KeyedLemmas
+pub mod TurnLines

@@ -4,11 +4,11 @@
 //! call adds one line to a buffer; after a refusal of memory the buffer has what it had, and perhaps
 //! a beginning of the line.
 
-ghost use Rattle.std.specs.Prelude.{◌≡◌, ◌≤◌, ◌++◌, ◌∷◌, [], true, codes, length, map, option_map, unwrap_or, OnOk};
+ghost use Rattle.std.specs.Prelude.{◌≡◌, ◌≤◌, ◌++◌, ◌∷◌, [], Some, true, codes, length, map, option_map, unwrap_or, OnOk};
 ghost use Rattle.std.specs.List.{list_all};
 ghost use Rattle.std.specs.Fmt.{decimal, signed_decimal};
 ghost use Rattle.wsm_record.specs.Schema.{Declared};
-ghost use Rattle.wsm_semantics.specs.Lines.{Out, Faulty, Refused, End};
+ghost use Rattle.wsm_semantics.specs.Lines.{Out, Faulty, Refused, End, refusal_lines};
 ghost use Rattle.wsm_semantics.specs.Text as text;
 ghost use Rattle.wsm_csv.specs.Lines.{cells_text, is_a_number, number_text};
 ghost use Rattle.wsm_csv.specs.KeyedLines.{IsLineOf, key_text, keyed_cells, keyed_text};
@@ -71,8 +71,28 @@ pub fn fault_text(row: u64, why: RowFault, out: &mut Vec<u8>) -> Result<(), Allo
     add_refused(row, fault_word(why), out)
 }
 
-/// Adds the line of a row whose event is refused.
-pub fn refusal_text(row: u64, why: Refusal, out: &mut Vec<u8>) -> Result<(), AllocError>
+/// Adds the line of a row whose event is refused, if it is one; a late record has none.
+pub fn refusal_text(row: u64, refusal: Option<Refusal>, out: &mut Vec<u8>) -> Result<(), AllocError>
+    ensures { (declared : Declared) → OnOk result (out.new.items ≡ out.old.items ++ text.lines_text declared (refusal_lines row refusal)) }
+{
+    match refusal {
+        Some(why) => add_refusal(row, why, out),
+        None => Ok(()),
+    }
+}
+
+// Adds the line of a refusal.
+fn add_refusal(row: u64, why: Refusal, out: &mut Vec<u8>) -> Result<(), AllocError>
+    ensures { (declared : Declared) → OnOk result (out.new.items ≡ out.old.items ++ text.lines_text declared (refusal_lines row (Some why))) }
+{
+    match why {
+        Refusal::Late => Ok(()),
+        _ => add_refusal_line(row, why, out),
+    }
+}
+
+// The same of one that has a line.
+fn add_refusal_line(row: u64, why: Refusal, out: &mut Vec<u8>) -> Result<(), AllocError>
     ensures { (declared : Declared) → OnOk result (out.new.items ≡ out.old.items ++ text.line_text declared (Refused row why)) }
 {
     add_refused(row, refusal_word(why), out)

@@ -17,7 +17,7 @@ use Rattle.wsm_engine.specs.Meaning as engine
 use Rattle.wsm.specs.declared.turns.Turns.{Turns}
 use Rattle.wsm.specs.Turns.{Fits}
 use Rattle.wsm.proofs.RowTurns.{one_more}
-use Rattle.wsm.proofs.TurnLines.{joined_lines}
+use Rattle.wsm_csv.proofs.TurnLines.{joined_lines}
 use Rattle.wsm.proofs.turns.Turns.feed.Goals as goal
 
 pub feed_judged-reply-requires : goal.feed_judged-reply-requires

@@ -4,7 +4,7 @@ use Rattle.wsm_semantics.specs.Lines.{Faulty, fault_count}
 use Rattle.wsm_semantics.specs.Text.{line_text}
 use Rattle.wsm.specs.Turns.{Fits}
 use Rattle.wsm.proofs.RowTurns.{one_more}
-use Rattle.wsm.proofs.TurnLines.{one_line}
+use Rattle.wsm_csv.proofs.TurnLines.{one_line}
 use Rattle.wsm.proofs.turns.Turns.refuse.Goals as goal
 
 pub returns : goal.returns
