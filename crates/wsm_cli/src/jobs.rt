@@ -1,13 +1,12 @@
-//! The jobs of the program, each in a file of its own.
+//! The jobs of the program, each in a crate of its kind.
 
-use crate::judging::{explain, verify};
-use crate::programs::{compile, migrated};
 use std::fs::File;
 use std::io::Eprint;
 use std::rt::Files;
 use std::time::Clock;
 use wsm_job::Stop;
 use wsm_live_job::live;
+use wsm_program_jobs::{compile, explain, migrated, verify};
 use wsm_row_jobs::{deal_or_tell, follow, keep};
 use wsm_run_job::{run, write_log_rows};
 use wsm_words::Job;

@@ -5,11 +5,7 @@
 //! the words' refusal has `clap`'s own text.
 #![tactic(auto)]
 
-mod explaining;
 mod jobs;
-mod judging;
-mod parted;
-mod programs;
 
 use crate::jobs::done;
 use std::alloc::{AllocError, Global};
@@ -19,7 +15,7 @@ use std::io::{self, ErrorKind, IsTerminal};
 use std::process::ExitCode;
 use std::rt::{Env, Files};
 use std::time::Clock;
-use wsm::{End, REJECTED_STATUS};
+use wsm_inputs::{End, REJECTED_STATUS};
 use wsm_job::{REFUSED_WORDS, Stop, WordsFault};
 use wsm_words::{Job, WordsRefusal, command_of};
 

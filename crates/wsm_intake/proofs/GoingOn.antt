@@ -1,10 +1,8 @@
 -- An intake that goes on from what another has come to.
-use Rattle.std.proofs.Common.{◌≡◌, ◌∙◌, ◌++◌, ◌≤◌, ◌+◌, ℕ, suc, ℤ, Bool, false, List, [], ◌∷◌, length, map, Option, Result, Ok, Err, inr, refl, sym, ap, arith}
-use Rattle.std.specs.Prelude.{IsTrue, if◌then◌else◌, nat_eq, unsigned_abs}
+use Rattle.std.proofs.Common.{◌≡◌, ◌∙◌, ◌++◌, ◌≤◌, ◌+◌, ℕ, ℤ, List, [], ◌∷◌, length, map, Option, Ok, Err, inr, refl, sym, ap, arith}
+use Rattle.std.specs.Prelude.{IsTrue, unsigned_abs}
 use Rattle.std.proofs.lemmas.List.Concat.{flat_map-append}
-use Rattle.std.proofs.lemmas.Bool.Decides.{nat_tests}
 use Rattle.wsm_record.specs.Event.{Event}
-use Rattle.wsm_record.specs.Schema.{Declared}
 use Rattle.wsm_semantics.specs.Query.{Query, verdict_on}
 use Rattle.wsm_semantics.specs.Relation.{turn_rows}
 use Rattle.wsm_semantics.specs.Lines.{Out, refusal_lines}
@@ -16,9 +14,6 @@ use Rattle.wsm_rules.proofs.Lawful.{lawful}
 use Rattle.wsm_machine.specs.Meaning.{plan_of, query_of}
 use Rattle.wsm_machine.proofs.QueryFolds.{plan_lawful, plan_runs}
 use Rattle.wsm_machine.proofs.CountedSessions.{sessions_by_event}
-use Rattle.wsm_lines.specs.declared.fault.LineFault.{LineFault}
-use Rattle.wsm_lines.specs.declared.fault.LineRefusal.{LineRefusal}
-use Rattle.wsm_lines.specs.declared.fault.LineRefusal.TheVariants as refusal
 use Rattle.wsm_lines.specs.declared.source.Source.{Source}
 use Rattle.wsm_turns.specs.declared.clocks.Clocks.{Clocks}
 use Rattle.wsm_turns.specs.Numbered.{Numbered}
@@ -29,28 +24,9 @@ use Rattle.wsm_head.proofs.Turning.{turns_alike}
 use Rattle.wsm_intake.specs.declared.intake.Intake.{Intake}
 use Rattle.wsm_intake.specs.declared.told.Told.{Told}
 use Rattle.wsm_intake.specs.Tells.{Serves}
-use Rattle.wsm_intake.specs.Intake.{Said, event_text, events_text, said, said_at, text_of_turn, turn_at}
-use Rattle.wsm_intake.specs.FirstLine.{first_of}
+use Rattle.wsm_log_text.specs.LogText.{Said, event_text, events_text, said, said_at, text_of_turn, turn_at}
 use Rattle.wsm_intake.specs.Turns.{Fits, TurnedBehind, setting_by}
 use Rattle.wsm_intake.specs.GoesOn.{GoesOn, GoneOn, kept_of}
-
--- ---- the first line
-
-not_zero : (n : ℕ) → nat_eq (suc n) 0 ≡ false
-not_zero n = grind (arith, nat_tests)
-
-pub first_next : (s : Source) (clocks : Option Clocks) (d : Declared) (before : List (List ℕ)) (line items : List ℕ) (n : ℕ) → n ≡ length (said s clocks d before) → items ≡ first_of before →
-    (if nat_eq n 0 then line else items) ≡ first_of (line ∷ before)
-first_next s clocks d [] line items n h k = ap (λ (m : ℕ). if nat_eq m 0 then line else items) h
-first_next s clocks d (x ∷ before) line items n h k =
-    ap (λ (m : ℕ). if nat_eq m 0 then line else items) h
-    ∙ ap (λ (b : Bool). if b then line else items) (not_zero (length (said s clocks d before)))
-    ∙ k
-
--- ---- a fault is no want of memory
-
-pub fault_alone : {X : Type 0} (why : LineFault) → ◌≡◌ {A = Result X LineRefusal} (Err (refusal.Fault why)) (Err refusal.Memory) → ⊥
-fault_alone why h = cc
 
 -- ---- what is written
 

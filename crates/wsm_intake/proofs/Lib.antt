@@ -1,11 +1,4 @@
-pub mod Lines
-pub mod Counts
 pub mod Texts
-pub mod StayingEvents
 pub mod GoingOn
-pub mod FedAll
-pub mod Behind
 pub mod SavedFacts
-pub mod Restored
-pub mod Headings
 pub mod Resumed

@@ -1,6 +1,5 @@
 -- An intake that goes on from a text.
-use Rattle.std.proofs.Common.{◌≡◌, ◌∙◌, ◌++◌, ◌≤◌, ◌<◌, ◌+◌, ℕ, ℤ, pos, List, [], ◌∷◌, length, reverse, append_assoc, append-nil, Option, refl, sym, ap, subst, arith}
-use Rattle.std.proofs.lemmas.List.{reverse-reverse}
+use Rattle.std.proofs.Common.{◌≡◌, ◌∙◌, ◌≤◌, ◌<◌, ◌+◌, ℕ, ℤ, pos, List, [], ◌∷◌, length, Option, sym, ap, subst, arith}
 use Rattle.std.specs.Prelude.{IsTrue, unsigned_abs}
 use Rattle.wsm_record.specs.Event.{Event}
 use Rattle.wsm_semantics.specs.Query.{Query}
@@ -27,18 +26,19 @@ use Rattle.wsm_head.specs.StandsFor.{program_with, records_left, taken}
 use Rattle.wsm_head.specs.Behind.{KeptFor}
 use Rattle.wsm_head.proofs.NeededStand.{has_room, needed_stand, stand_through, taken_alike}
 use Rattle.wsm_intake.specs.declared.intake.Intake.{Intake}
-use Rattle.wsm_intake.specs.declared.standing.Standing.{Standing}
+use Rattle.wsm_log_text.specs.declared.standing.Standing.{Standing}
 use Rattle.wsm_intake.specs.declared.told.Told.{Told}
-use Rattle.wsm_intake.specs.Intake.{names_of, said}
+use Rattle.wsm_log_text.specs.LogText.{names_of, said}
 use Rattle.wsm_intake.specs.Tells.{Serves}
-use Rattle.wsm_intake.specs.FirstLine.{first_of}
+use Rattle.wsm_log_text.specs.FirstLine.{first_of}
 use Rattle.wsm_intake.specs.Turns.{setting_by}
 use Rattle.wsm_intake.specs.GoesOn.{GoesOn, kept_of}
-use Rattle.wsm_intake.specs.Standing.{Says}
-use Rattle.wsm_intake.specs.Saved.{Saved, facts_of, needed_in_order}
-use Rattle.wsm_intake.specs.Resuming.{GoesOnFrom, fed_all, left_behind}
-use Rattle.wsm_intake.proofs.Headings.{first_alone}
-use Rattle.wsm_intake.proofs.StayingEvents.{reverse-cons}
+use Rattle.wsm_log_text.specs.Standing.{Says}
+use Rattle.wsm_intake.specs.Saved.{Saved, facts_of}
+use Rattle.wsm_log_text.specs.Needed.{needed_in_order, fed_all, left_behind}
+use Rattle.wsm_intake.specs.Resuming.{GoesOnFrom}
+use Rattle.wsm_log_text.proofs.Headings.{first_alone}
+use Rattle.wsm_log_text.proofs.NeededEvents.{needed_fed}
 
 -- ---- the first line alone makes the heading
 
@@ -47,17 +47,6 @@ reads_on s clocks p [] r some h = absurd (omega (arith, some))
 reads_on s clocks p (line ∷ before) r some h = record { source = h.source; heading = h.heading ∙ sym (first_alone s.format s.longest line before) }
 
 -- ---- the events that the engine was fed
-
-fed_reversed : (past events : List Event) → fed_all past events ≡ reverse events ++ past
-fed_reversed past [] = refl
-fed_reversed past (e ∷ es) =
-    fed_reversed (e ∷ past) es
-    ∙ sym (append_assoc (reverse es) (e ∷ []) past)
-    ∙ ap (λ (l : List Event). l ++ past) (sym (reverse-cons e es))
-
--- the needed ones, as they were saved
-pub needed_fed : (q : Query) (fed : List Event) → fed_all [] (needed_in_order q fed) ≡ needed q fed
-needed_fed q fed = fed_reversed [] (needed_in_order q fed) ∙ append-nil (reverse (needed_in_order q fed)) ∙ reverse-reverse (needed q fed)
 
 module _ (s : Source) (clocks : Option Clocks) (p : Program) (whole : IsTrue (is_program p)) (before : List (List ℕ)) (text : List ℕ) (saved : Saved s clocks p before text) where
   abbrev mid : Program

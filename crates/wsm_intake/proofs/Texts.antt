@@ -3,13 +3,13 @@ use Rattle.std.proofs.Common.{◌≡◌, ◌∙◌, ◌++◌, ◌∷◌, ℕ, Li
 use Rattle.std.specs.Io.KnownBytes.{Appends}
 use Rattle.wsm_csv.specs.Device.{TakesPart}
 use Rattle.wsm_csv.proofs.Written.{Appends-join, Appends-start, TakesPart-last}
-use Rattle.wsm_intake.specs.declared.totals.LogTotals.{LogTotals}
+use Rattle.wsm_log_text.specs.declared.totals.LogTotals.{LogTotals}
 use Rattle.wsm_program.specs.Program.{Program}
 use Rattle.wsm_machine.specs.Meaning.{query_of}
 use Rattle.wsm_lines.specs.declared.source.Source.{Source}
 use Rattle.wsm_turns.specs.declared.clocks.Clocks.{Clocks}
 use Rattle.wsm_intake.specs.declared.intake.Intake.{Intake}
-use Rattle.wsm_intake.specs.Intake.{said, text, turns_text}
+use Rattle.wsm_log_text.specs.LogText.{said, text, turns_text}
 use Rattle.wsm_intake.specs.Turns.{Ends, Fits, Turned}
 use Rattle.wsm_log_rows.proofs.Reading.{newest_first}
 use Rattle.wsm_intake.specs.Run.{Stands, read_by}

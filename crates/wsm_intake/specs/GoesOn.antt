@@ -9,7 +9,7 @@ use Rattle.wsm_turns.specs.Turns.{Kept, kept}
 use Rattle.wsm_head.specs.StandsFor.{program_with}
 use Rattle.wsm_head.specs.Behind.{KeptFor}
 use Rattle.wsm_intake.specs.declared.intake.Intake.{Intake}
-use Rattle.wsm_intake.specs.Intake.{said, said_at, turn_text}
+use Rattle.wsm_log_text.specs.LogText.{said, said_at, turn_text}
 use Rattle.wsm_intake.specs.Turns.{FitsBehind, setting_by}
 
 -- what is kept of lines by a program

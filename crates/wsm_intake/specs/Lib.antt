@@ -1,11 +1,7 @@
-pub mod FirstLine
-pub mod Intake
-pub mod Counts
 pub mod Staying
 pub mod Tells
 pub mod Turns
 pub mod GoesOn
 pub mod Resuming
-pub mod Standing
 pub mod Saved
 pub mod Run

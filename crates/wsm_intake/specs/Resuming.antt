@@ -1,21 +1,12 @@
 -- An engine that goes on from events which stand for all that came.
-use Rattle.std.specs.Prelude.{◌≤◌, ℕ, ◌+◌, ◌-◌, pos, List, [], ◌∷◌, unsigned_abs}
+use Rattle.std.specs.Prelude.{◌≤◌, ℕ, ◌+◌, pos, List, [], unsigned_abs}
 use Rattle.wsm_record.specs.Event.{Event}
-use Rattle.wsm_semantics.specs.Query.{Query}
 use Rattle.wsm_program.specs.Program.{Program}
 use Rattle.wsm_machine.specs.Meaning.{query_of}
 use Rattle.wsm_head.specs.StandsFor.{program_with, taken}
+use Rattle.wsm_log_text.specs.Needed.{fed_all}
 use Rattle.wsm_intake.specs.declared.told.Told.{Told}
 use Rattle.wsm_intake.specs.Tells.{Serves}
-
--- how many RECORDS are left behind a history
-abbrev pub left_behind : Query → List Event → ℕ
-left_behind q past = unsigned_abs q.clock.records - taken q past
-
--- a history with further events, the oldest of these first
-abbrev pub fed_all : List Event → List Event → List Event
-fed_all past [] = past
-fed_all past (e ∷ es) = fed_all (e ∷ past) es
 
 -- a program was fed these events, the oldest first, with so many RECORDS that as many are left behind them as are wanted
 pub record GoesOnFrom (p : Program) (left : ℕ) (events : List Event) (told : Told) : Type 0 where

@@ -10,12 +10,12 @@ use Rattle.wsm_lines.specs.declared.source.Source.{Source}
 use Rattle.wsm_log.specs.LinesOf.{AreAll, AreFirst}
 use Rattle.wsm_turns.specs.declared.clocks.Clocks.{Clocks}
 use Rattle.wsm_intake.specs.declared.intake.Intake.{Intake}
-use Rattle.wsm_intake.specs.declared.totals.LogCounts.{LogCounts}
-use Rattle.wsm_intake.specs.Counts.{counts_of}
+use Rattle.wsm_log_text.specs.declared.totals.LogCounts.{LogCounts}
+use Rattle.wsm_log_text.specs.Counts.{counts_of}
 use Rattle.wsm_log_rows.specs.declared.end.LogEnd.{LogEnd}
 use Rattle.wsm_log_rows.specs.declared.end.LogEnd.TheVariants as ends
-use Rattle.wsm_intake.specs.Intake.{Said, said, end_line, text, turns_text}
-use Rattle.wsm_intake.specs.Turns.{Fits, line_of}
+use Rattle.wsm_log_text.specs.LogText.{Said, said, end_line, text, turns_text, line_of}
+use Rattle.wsm_intake.specs.Turns.{Fits}
 
 -- what lines say, the newest first
 abbrev pub read_by : Source → Option Clocks → Query → List (List ℕ) → List Said

@@ -1,9 +1,8 @@
 -- What an intake has come to, as a text. It says which events the engine needs and all else as it is; a run goes on from it as from the
 -- lines themselves.
-use Rattle.std.specs.Prelude.{◌≡◌, ◌<◌, ◌≤◌, ◌&&◌, ℕ, ℤ, nat_lt, Bool, List, length, reverse, Option, is_some, IsTrue, unsigned_abs}
+use Rattle.std.specs.Prelude.{◌≡◌, ◌<◌, ◌≤◌, ◌&&◌, ℕ, ℤ, nat_lt, Bool, List, length, Option, is_some, IsTrue, unsigned_abs}
 use Rattle.wsm_record.specs.Event.{Event}
 use Rattle.wsm_semantics.specs.Query.{Query}
-use Rattle.wsm_semantics.specs.Needed.{needed}
 use Rattle.wsm_program.specs.Program.{Program, is_program}
 use Rattle.wsm_machine.specs.Meaning.{plan_of, query_of}
 use Rattle.wsm_lines.specs.declared.source.Source.{Source}
@@ -16,18 +15,14 @@ use Rattle.wsm_head.specs.StandsFor.{program_with, taken}
 use Rattle.wsm_head.specs.Behind.{KeptFor}
 use Rattle.wsm_saved.specs.Lists.{ListFits, list_text}
 use Rattle.wsm_saved.specs.Events.{EventFits, event_text}
-use Rattle.wsm_intake.specs.Intake.{names_of, said}
-use Rattle.wsm_intake.specs.FirstLine.{first_of}
+use Rattle.wsm_log_text.specs.Needed.{needed_in_order, left_behind}
+use Rattle.wsm_log_text.specs.LogText.{names_of, said}
+use Rattle.wsm_log_text.specs.FirstLine.{first_of}
 use Rattle.wsm_intake.specs.Turns.{setting_by}
 use Rattle.wsm_intake.specs.GoesOn.{kept_of}
-use Rattle.wsm_intake.specs.Resuming.{left_behind}
-use Rattle.wsm_intake.specs.Standing.{AreFacts, Facts, Says, facts_text}
+use Rattle.wsm_log_text.specs.Standing.{AreFacts, Facts, Says, facts_text}
 use Rattle.wsm_intake.specs.declared.intake.Intake.{Intake}
-use Rattle.wsm_intake.specs.declared.standing.Standing.{Standing}
-
--- the events that a query needs of a history, the oldest first
-abbrev pub needed_in_order : Query → List Event → List Event
-needed_in_order q past = reverse (needed q past)
+use Rattle.wsm_log_text.specs.declared.standing.Standing.{Standing}
 
 -- what is kept of lines, by a query whose events these are
 abbrev pub facts_of : Source → Option Clocks → Program → List (List ℕ) → Query → Kept → Option Waiting → Memory → Facts

@@ -1,9 +1,7 @@
 -- What stays of the events that an engine takes.
-use Rattle.std.specs.Prelude.{◌≡◌, ℕ, List, ◌∷◌, ◌++◌, reverse}
+use Rattle.std.specs.Prelude.{◌≡◌, List, ◌∷◌}
 use Rattle.wsm_record.specs.Event.{Event}
-use Rattle.wsm_semantics.specs.Query.{Query}
 use Rattle.wsm_semantics.specs.Relation.{turn_rows}
-use Rattle.wsm_semantics.specs.Needed.{needed}
 use Rattle.wsm_program.specs.Program.{Program}
 use Rattle.wsm_machine.specs.Meaning.{query_of}
 use Rattle.wsm_engine.specs.State.{State}
@@ -14,7 +12,7 @@ use Rattle.wsm_keep.specs.Holds.{rows_with}
 use Rattle.wsm_cut.specs.Cutter as cutter
 use Rattle.wsm_cut.specs.declared.cutter.Cutter.{Cutter}
 use Rattle.wsm_saved.specs.Events.{EventFits, event_text}
-use Rattle.wsm_saved.specs.Lists.{EachFits, ListFits, list_text}
+use Rattle.wsm_saved.specs.Lists.{EachFits}
 
 -- a cutter has what it should of events, each with its saved text, from which it comes back
 pub record Cuts (p : Program) (c : Cutter) (past : List Event) : Type 0 where
@@ -27,8 +25,3 @@ pub record Fed (p : Program) (new : State) (past : List Event) (e : Event) (repl
   pub fits : engine.Fits new (e ∷ past)
   pub is : reply ≡ reply_to p past e
   pub rows : new.rows ≡ turn_rows (query_of p) past e
-
--- the list of the needed events of a history stands behind a text, the oldest first, and comes back
-pub record IsListed (q : Query) (past : List Event) (old new : List ℕ) : Type 0 where
-  pub text : new ≡ old ++ list_text event_text (reverse (needed q past))
-  pub fits : ListFits EventFits (reverse (needed q past))

@@ -9,7 +9,7 @@ use Rattle.wsm_engine.specs.Meaning as engine
 use Rattle.wsm_turns.specs.Numbered.{Numbered}
 use Rattle.wsm_turns.specs.Turns.{fed_with}
 use Rattle.wsm_intake.specs.declared.told.Told.{Told}
-use Rattle.wsm_intake.specs.Intake.{event_text, events_text}
+use Rattle.wsm_log_text.specs.LogText.{event_text, events_text}
 use Rattle.wsm_intake.specs.Staying.{Cuts}
 
 -- the engine of the program, after a history of events, and what stays of them, where that is kept

@@ -1,8 +1,6 @@
 -- What an intake keeps, and how it fits the lines so far.
 use Rattle.std.specs.Prelude.{◌≡◌, ◌≤◌, ℕ, ◌+◌, ℤ, List, ◌∷◌, ◌++◌, length, Option}
 use Rattle.wsm_admission.specs.Admission.{counter}
-use Rattle.wsm_semantics.specs.Lines.{Line, End}
-use Rattle.wsm_semantics.specs.declared.ending.Totals.{Totals}
 use Rattle.wsm_program.specs.Program.{Program}
 use Rattle.wsm_machine.specs.Meaning.{query_of}
 use Rattle.wsm_lines.specs.declared.reader.LineReader.{LineReader}
@@ -10,18 +8,18 @@ use Rattle.wsm_lines.specs.Reader.{Follows, event_read, identifier_read}
 use Rattle.wsm_lines.specs.declared.source.Source.{Source}
 use Rattle.wsm_turns.specs.declared.clocks.Clocks.{Clocks}
 use Rattle.wsm_intake.specs.declared.intake.Intake.{Intake}
-use Rattle.wsm_intake.specs.declared.totals.LogTotals.{LogTotals}
+use Rattle.wsm_log_text.specs.declared.totals.LogTotals.{LogTotals}
 use Rattle.wsm_turns.specs.declared.voice.Voice.{Voice}
 use Rattle.wsm_turns.specs.Clocks.{count_in, named_in}
 use Rattle.wsm_turns.specs.Heard.{left_count, silent_count, silent_in}
 use Rattle.wsm_turns.specs.Named.{Knows}
 use Rattle.wsm_turns.specs.Voices.{Voiced}
 use Rattle.wsm_turns.specs.Turns.{Kept, Setting, Spoken, Turn, kept, setting_of, watermark}
-use Rattle.wsm_intake.specs.Counts.{counts_of}
-use Rattle.wsm_intake.specs.Intake.{end_line, end_text, events_text, fault_count, names_of, said, said_at, text_of_turn, turn_at, turn_text}
+use Rattle.wsm_log_text.specs.Counts.{counts_of}
+use Rattle.wsm_log_text.specs.LogText.{end_line, end_text, events_text, fault_count, line_of, names_of, said, said_at, text_of_turn, turn_at, turn_text}
 use Rattle.wsm_turns.specs.Waits.{Hear}
 use Rattle.wsm_turns.specs.Known.{Remembers}
-use Rattle.wsm_intake.specs.FirstLine.{first_of}
+use Rattle.wsm_log_text.specs.FirstLine.{first_of}
 use Rattle.wsm_intake.specs.Tells.{Serves}
 
 abbrev pub setting_by : Option Clocks → Program → Setting
@@ -79,10 +77,6 @@ pub record Turned (s : Source) (clocks : Option Clocks) (p : Program) (new : Int
 pub record TurnedBehind (s : Source) (clocks : Option Clocks) (p : Program) (records : ℤ) (new : Intake) (k : Kept) (before : List (List ℕ)) (line : List ℕ) : Type 0 where
   pub fits : FitsBehind s clocks p records new (turn_at (setting_by clocks p) k (length (said s clocks p.header.schema before) + 1) (said_at s clocks p.header.schema before line)).kept (line ∷ before)
   pub text : new.told.lines.items ≡ text_of_turn (query_of p) clocks k (length (said s clocks p.header.schema before) + 1) (said_at s clocks p.header.schema before line)
-
--- the last line, with these totals
-abbrev pub line_of : Totals → Line
-line_of t = End t.rows t.admitted t.late t.refused t.panes
 
 -- the intake is at its end: its bytes are those behind all turns, with these numbers and counts
 pub record Ends (s : Source) (clocks : Option Clocks) (p : Program) (new : Intake) (lines : List (List ℕ)) (end : LogTotals) : Type 0 where

@@ -1,6 +1,6 @@
 //! What the lines of a log so far come to.
 
-ghost use Rattle.std.specs.Prelude.{◌≡◌, ◌<◌, ◌^◌, [], ℤ, Option, IfOk, IsTrue, OnOk, if◌then◌else◌, length, nat_eq, option_map};
+ghost use Rattle.std.specs.Prelude.{◌≡◌, ◌<◌, ◌^◌, [], ℤ, Option, IfOk, IsTrue, OnOk, length, option_map};
 ghost use Rattle.wsm_program.specs.Program.{Program, is_program};
 ghost use Rattle.wsm_turns.specs.declared.clocks.Clocks.{Clocks as AnyClocks};
 ghost use Rattle.wsm_turns.specs.Clocks.{AreClocks, count_in, named_in};
@@ -11,12 +11,12 @@ ghost use Rattle.wsm_turns.specs.Waits.{Hear};
 ghost use Rattle.wsm_intake.specs.Tells.{Serves};
 ghost use Rattle.wsm_intake.specs.Turns.{setting_by};
 
-use crate::told::{Told, add_fault};
-use crate::totals::{LogCounts, LogTotals};
+use crate::told::Told;
 use std::alloc::{AllocError, Global};
 use wsm_csv::{Device, DeviceFault, end_text, write_out};
 use wsm_engine::Totals;
 use wsm_lines::{LineFault, LineReader, LineRefusal, Source};
+use wsm_log_text::{LogCounts, LogTotals, add_fault, note_first};
 use wsm_rules::Verified;
 use wsm_turns::{
     ClockNames, Clocks, Identifiers, Listener, Stamp, Taker, Voice, Waiting, clocks_heard,
@@ -84,10 +84,10 @@ impl Intake {
     ghost use Rattle.wsm_turns.specs.Voices.{stamp_by, voiced};
     ghost use Rattle.wsm_turns.specs.Heard.{left_by};
     ghost use Rattle.wsm_turns.specs.Turns.{Kept, turn_by};
-    ghost use Rattle.wsm_intake.specs.Counts.{counts_of};
-    ghost use Rattle.wsm_intake.specs.Intake.{Said, fault_count, fault_text, left_at, line_behind, said, turn_at, voiced_in};
+    ghost use Rattle.wsm_log_text.specs.Counts.{counts_of};
+    ghost use Rattle.wsm_log_text.specs.LogText.{Said, fault_count, fault_text, left_at, line_behind, said, turn_at, voiced_in, line_of};
     ghost use Rattle.wsm_intake.specs.Tells.{Serves};
-    ghost use Rattle.wsm_intake.specs.Turns.{Ends, Fits, FitsBehind, Goes, Holds, Speaks, Turned, TurnedBehind, line_of, setting_by, spoken_read};
+    ghost use Rattle.wsm_intake.specs.Turns.{Ends, Fits, FitsBehind, Goes, Holds, Speaks, Turned, TurnedBehind, setting_by, spoken_read};
     ghost use Rattle.wsm_intake.specs.GoesOn.{GoesOn, GoneOn};
     ghost use Rattle.wsm_intake.specs.Saved.{keeps_events};
 
@@ -338,18 +338,6 @@ impl Intake {
             refused: self.faults.saturating_add(totals.refused),
             panes: totals.panes,
         }
-    }
-}
-
-/// Keeps the first line, where none was taken before it.
-pub fn note_first(taken: u64, line: &[u8], first: &mut Vec<u8>) -> Result<(), AllocError>
-    ensures { OnOk result (first.new.items ≡ (if nat_eq taken 0 then line.now else first.old.items)) }
-{
-    if taken == 0 {
-        first.clear();
-        first.extend_from_slice(line)
-    } else {
-        Ok(())
     }
 }
 

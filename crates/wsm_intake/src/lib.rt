@@ -2,23 +2,18 @@
 //!
 //! An [`Intake`] takes one line after the other, and has the bytes that are written for the last one. [`run_log`] has it take the lines
 //! of a reader, and gives a device these bytes; [`LogTotals`] is what that comes to. An intake is saved as a text, from which another
-//! goes on: a [`Standing`] is what such a text says beside the engine.
+//! goes on.
 #![tactic(auto)]
 
-pub use intake::{Intake, note_first};
-pub use resuming::fewer_records;
+pub use intake::Intake;
 pub use run::run_log;
-pub use standing::Standing;
-pub use told::add_fault;
-pub use totals::{LogCounts, LogTotals};
 pub use wsm_log_rows::LogEnd;
+pub use wsm_log_text::LogTotals;
 pub use wsm_turns::Listener;
 
 mod intake;
 mod resuming;
 mod run;
 mod saving;
-mod standing;
 mod staying;
 mod told;
-mod totals;

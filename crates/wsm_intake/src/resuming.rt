@@ -1,26 +1,28 @@
 //! An engine that goes on from events which stand for all that came.
 
-ghost use Rattle.std.specs.Prelude.{◌≡◌, ◌+◌, ◌≤◌, [], List, IfOk, IfSome, map, pos, unsigned_abs};
+ghost use Rattle.std.specs.Prelude.{◌≡◌, List, map};
 ghost use Rattle.wsm_record.specs.Event.{Event as AnyEvent, event_of};
 ghost use Rattle.wsm_engine.specs.Meaning.{Fits};
-ghost use Rattle.wsm_intake.specs.Resuming.{fed_all};
+ghost use Rattle.wsm_log_text.specs.Needed.{fed_all};
 
 use crate::told::{Told, opened};
 use std::alloc::{AllocError, Global};
 use wsm_engine::Engine;
 use wsm_head::with_records;
+use wsm_log_text::fewer_records;
 use wsm_program::Program;
 use wsm_record::Event;
 use wsm_turns::Taker;
 
 impl Told {
-    ghost use Rattle.std.specs.Prelude.{◌≡◌, ◌+◌, ◌≤◌, [], List, ℤ, IfOk, IfSome, IsTrue, OnOk, map, pos, unsigned_abs};
+    ghost use Rattle.std.specs.Prelude.{◌≡◌, List, IfOk, IfSome, IsTrue, OnOk, map};
     ghost use Rattle.wsm_record.specs.Event.{Event as AnyEvent, event_of};
     ghost use Rattle.wsm_program.specs.Program.{Program as AnyProgram, is_program};
     ghost use Rattle.wsm_machine.specs.Meaning.{query_of};
-    ghost use Rattle.wsm_head.specs.StandsFor.{program_with, taken};
+    ghost use Rattle.wsm_head.specs.StandsFor.{program_with};
     ghost use Rattle.wsm_intake.specs.Tells.{Serves};
-    ghost use Rattle.wsm_intake.specs.Resuming.{GoesOnFrom, fed_all, left_behind};
+    ghost use Rattle.wsm_intake.specs.Resuming.{GoesOnFrom};
+    ghost use Rattle.wsm_log_text.specs.Needed.{fed_all, left_behind};
 
     /// The program.
     pub fn program(&self) -> &Program
@@ -92,17 +94,5 @@ fn feed_all(engine: &mut Engine, events: &[Event])
 {
     for event in events {
         let _ = engine.feed(event);
-    }
-}
-
-/// So many RECORDS that as many are left where some were taken, unless these are more than there may be.
-pub fn fewer_records(left: u64, taken: u64, records: i64) -> Option<i64>
-    ensures { IfSome result (λ n. (n ≡ pos (left + taken)) × ((left + taken) ≤ unsigned_abs records)) }
-{
-    let fewer = left.checked_add(taken)?;
-    if fewer <= records.unsigned_abs() {
-        i64::try_from(fewer).ok()
-    } else {
-        None
     }
 }

@@ -12,13 +12,13 @@ ghost use Rattle.wsm_intake.specs.Run.{Completes, EndsEarly, LogBroken, LogCount
 ghost use Rattle.wsm_intake.specs.Turns.{Fits};
 
 use crate::intake::Intake;
-use crate::totals::LogTotals;
 use std::alloc::Global;
 use std::io::Read;
 use wsm_csv::Device;
 use wsm_lines::Source;
 use wsm_log::Lines;
 use wsm_log_rows::LogEnd;
+use wsm_log_text::LogTotals;
 use wsm_rules::Verified;
 use wsm_turns::{Clocks, Listener};
 

@@ -14,11 +14,11 @@ ghost use Rattle.wsm_intake.specs.GoesOn.{GoesOn};
 ghost use Rattle.wsm_intake.specs.Saved.{IsRead, Saved, can_say, keeps_events};
 
 use crate::intake::Intake;
-use crate::standing::Standing;
 use crate::told::Told;
 use std::alloc::{AllocError, Global};
 use wsm_doubles::Doubles;
 use wsm_lines::{LineReader, LineRefusal};
+use wsm_log_text::Standing;
 use wsm_program::Program;
 use wsm_record::{Event, Schema};
 use wsm_saved::{Restoring, restore_all, save_bytes, save_number};
@@ -26,8 +26,8 @@ use wsm_saved_turns::{save_clocks, save_doubles, save_names};
 use wsm_turns::{Clocks, Identifiers, count_in};
 
 impl Intake {
-    /// Adds a text from which [`Intake::resume`] goes on, and answers whether it could: no line was taken, all RECORDS of the query
-    /// are used up, or the intake doesn't keep the events that it needs.
+    /// Adds a text from which [`Intake::resume`] goes on, and answers whether it did. It doesn't where no line was taken,
+    /// all RECORDS of the query are used up, or the events that it needs aren't kept.
     ///
     /// # Errors
     ///

@@ -8,7 +8,8 @@ ghost use Rattle.wsm_engine.specs.Meaning.{Fits as EngineFits};
 ghost use Rattle.wsm_keep.specs.Holds.{rows_with};
 ghost use Rattle.wsm_keep.specs.Keeper.{IsTold};
 ghost use Rattle.wsm_saved.specs.Events.{event_text};
-ghost use Rattle.wsm_intake.specs.Staying.{Cuts, Fed, IsListed};
+ghost use Rattle.wsm_intake.specs.Staying.{Cuts, Fed};
+ghost use Rattle.wsm_log_text.specs.Needed.{IsListed};
 
 use std::alloc::{AllocError, Global};
 use std::marker::Model;

@@ -1,19 +1,13 @@
 //! An engine, and what it has told.
 
-ghost use Rattle.std.specs.Prelude.{◌≡◌, ◌++◌, [], Some, IfOk, OnOk};
-ghost use Rattle.wsm_record.specs.Schema.{Declared};
-ghost use Rattle.wsm_semantics.specs.Lines.{refusal_lines};
-ghost use Rattle.wsm_semantics.specs.Text.{lines_text};
+ghost use Rattle.std.specs.Prelude.{◌≡◌, [], IfOk};
 ghost use Rattle.wsm_engine.specs.Meaning.{Fits};
-ghost use Rattle.wsm_intake.specs.Intake.{fault_text};
 
 use crate::staying::Staying;
-use itoa::Buffer;
 use std::alloc::{AllocError, Global};
 use wsm_admission::Refusal;
 use wsm_csv::{refusal_text, rows_text};
 use wsm_engine::{Engine, Reply};
-use wsm_lines::LineFault;
 use wsm_record::{Event, Schema};
 use wsm_rules::Verified;
 use wsm_turns::Taker;
@@ -47,7 +41,8 @@ impl Told {
     ghost use Rattle.wsm_semantics.specs.Query.{mark};
     ghost use Rattle.wsm_semantics.specs.Lines.{refusal_lines};
     ghost use Rattle.wsm_semantics.specs.Text.{lines_text};
-    ghost use Rattle.wsm_intake.specs.Staying.{Cuts, Fed, IsListed};
+    ghost use Rattle.wsm_intake.specs.Staying.{Cuts, Fed};
+    ghost use Rattle.wsm_log_text.specs.Needed.{IsListed};
     ghost use Rattle.wsm_intake.specs.Tells.{Serves};
 
     /// Before the first event.
@@ -150,10 +145,7 @@ impl Told {
             OnOk result (self.new.lines.items ≡ self.old.lines.items ++ lines_text declared (refusal_lines number refusal)) }
         ensures others { self.new ≡ record self.old { lines = self.new.lines } }
     {
-        match refusal {
-            Some(why) => add_refusal(number, why, &mut self.lines),
-            None => Ok(()),
-        }
+        refusal_text(number, refusal, &mut self.lines)
     }
 }
 
@@ -188,30 +180,4 @@ pub fn opened(alloc: Global, verified: Verified) -> Result<Engine, AllocError>
         Ok(engine) => Ok(engine),
         Err(_) => Err(AllocError),
     }
-}
-
-// Adds the line of a refusal; a late record has none.
-fn add_refusal(number: u64, why: Refusal, lines: &mut Vec<u8>) -> Result<(), AllocError>
-    ensures { (declared : Declared) → OnOk result (lines.new.items ≡ lines.old.items ++ lines_text declared (refusal_lines number (Some why))) }
-{
-    match why {
-        Refusal::Late => Ok(()),
-        _ => refusal_text(number, why, lines),
-    }
-}
-
-/// Adds the line of a line that is no event.
-///
-/// # Errors
-///
-/// Memory was refused.
-pub fn add_fault(number: u64, why: LineFault, lines: &mut Vec<u8>) -> Result<(), AllocError>
-    ensures { OnOk result (lines.new.items ≡ lines.old.items ++ fault_text number why) }
-{
-    let mut digits = Buffer::new();
-    lines.extend_from_slice(b"refused,")?;
-    lines.extend_from_slice(digits.format(number).as_bytes())?;
-    lines.push(b',')?;
-    lines.extend_from_slice(why.word().as_bytes())?;
-    Ok(lines.push(b'\n')?)
 }

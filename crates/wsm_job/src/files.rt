@@ -3,7 +3,8 @@
 use std::fs;
 use std::io::{self, ErrorKind, Write};
 use std::rt::Files;
-use wsm::{Device, End, Guarded, Input as Judged, accepted_of, write_out};
+use wsm_csv::{Device, Guarded, write_out};
+use wsm_inputs::{End, Input as Judged, accepted_of};
 use wsm_rules::Verified;
 
 /// The bytes of a file.

@@ -4,12 +4,13 @@ use crate::stop::Stop;
 use std::alloc::{AllocError, Global};
 use std::fs::File;
 use std::rt::Files;
-use wsm::Totals;
-use wsm_log_run::{Heard, LogCounts};
+use wsm_log_text::LogCounts;
 use wsm_metrics::{Metric, metrics_text};
 use wsm_replace::put;
 use wsm_row_counts::Lines;
 use wsm_row_watermarks::Totals as RowTotals;
+use wsm_semantics::Totals;
+use wsm_turns::Heard;
 
 /// What a run came to: the numbers of its last line, what of a log is counted beside them, and what is counted of the lines that
 /// were written, where that was asked for.

@@ -2,15 +2,14 @@
 
 use std::alloc::{AllocError, AllocFailed};
 use std::fmt;
-use wsm::{End, InputRefusal, Position, status_of};
+use wsm_ends::{KeyedLogStop, KeyedStop, end_of_log};
 use wsm_fed::FedFault;
+use wsm_inputs::{End, InputRefusal, status_of};
 use wsm_kept::KeepEnd;
-use wsm_keyed_intake::KeyedLogStop;
-use wsm_keyed_run::KeyedStop;
 use wsm_live_loop::LiveStop;
-use wsm_log_run::end_of_log;
 use wsm_replace::ReplaceFault;
 use wsm_source::SourceRefusal;
+use wsm_tokens::Position;
 
 /// The words were refused.
 pub const REFUSED_WORDS: u8 = 2;
@@ -42,7 +41,7 @@ pub enum Stop {
     KeyedLog(KeyedLogStop),
     /// Its live run ends.
     Live(LiveStop),
-    /// As a job without a source ends.
+    /// As a run of a query or a program ends, or because the input is none.
     End(End),
 }
 

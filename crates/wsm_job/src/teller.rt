@@ -1,7 +1,8 @@
 //! What is told of a log on standard error.
 
 use std::io::Eprint;
-use wsm_log_run::{Heard, Listener, LogCounts};
+use wsm_log_text::LogCounts;
+use wsm_turns::{Heard, Listener};
 
 /// Tells of the clocks of a log while a run over it lasts, and of its clocks, doubles and records without a
 /// clock at the end.

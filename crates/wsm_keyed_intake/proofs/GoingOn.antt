@@ -4,12 +4,12 @@ use Rattle.std.specs.Prelude.{IsTrue, unsigned_abs}
 use Rattle.wsm_record.specs.Event.{Event}
 use Rattle.wsm_semantics.specs.Query.{Query, verdict_on}
 use Rattle.wsm_semantics.specs.Relation.{turn_rows}
-use Rattle.wsm_semantics.specs.Lines.{Line, Out, refusal_lines}
+use Rattle.wsm_semantics.specs.Lines.{Out, refusal_lines}
 use Rattle.wsm_semantics.specs.Summaries.{Plan, Runs}
 use Rattle.wsm_semantics.specs.ByKey.{with_records}
 use Rattle.wsm_program.specs.Program.{Program, is_program}
 use Rattle.wsm_rules.proofs.Lawful.{lawful}
-use Rattle.wsm_machine.specs.Meaning.{plan_of, query_of}
+use Rattle.wsm_machine.specs.Meaning.{plan_of}
 use Rattle.wsm_machine.proofs.QueryFolds.{plan_lawful, plan_runs}
 use Rattle.wsm_machine.proofs.CountedSessions.{sessions_by_event}
 use Rattle.wsm_turns.specs.declared.clocks.Clocks.{Clocks}
@@ -25,12 +25,11 @@ use Rattle.wsm_keyed_told.specs.Tells.{Serves}
 use Rattle.wsm_keyed_told.proofs.KeyedLines.{keyed_both}
 use Rattle.wsm_keyed_told.proofs.More.{fits_more}
 use Rattle.wsm_part_engines.specs.Fits as parts
-use Rattle.wsm_intake.specs.FirstLine.{first_of}
-use Rattle.wsm_intake.specs.Intake.{Said}
+use Rattle.wsm_log_text.specs.LogText.{Said}
 use Rattle.wsm_keyed_intake.specs.declared.intake.KeyedIntake.{KeyedIntake}
 use Rattle.wsm_keyed_intake.specs.KeyedLog.{KeyedLog, kept_by, names_of, said_by, text_of_turn}
 use Rattle.wsm_keyed_intake.specs.Turns.{Fits, Grows}
-use Rattle.wsm_keyed_intake.specs.GoesOn.{GoesOn, GoesOnBy}
+use Rattle.wsm_keyed_intake.specs.GoesOn.{GoesOn}
 
 -- the plan of a program runs its query over any names
 pub runs_names : (p : Program) (all : List (List ℕ)) → Runs (plan_of p) (of_names p all)

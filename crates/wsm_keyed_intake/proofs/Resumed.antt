@@ -1,5 +1,5 @@
 -- A keyed intake that goes on from a text.
-use Rattle.std.proofs.Common.{◌≡◌, ◌∙◌, ◌++◌, ◌≤◌, ◌<◌, ◌+◌, ℕ, ℤ, pos, List, [], ◌∷◌, length, Option, refl, sym, ap, subst, arith}
+use Rattle.std.proofs.Common.{◌≡◌, ◌∙◌, ◌≤◌, ◌<◌, ◌+◌, ℕ, ℤ, pos, List, [], ◌∷◌, length, Option, sym, ap, subst, arith}
 use Rattle.std.specs.Prelude.{IsTrue, unsigned_abs}
 use Rattle.wsm_record.specs.Event.{Event}
 use Rattle.wsm_semantics.specs.Query.{Query}
@@ -25,12 +25,12 @@ use Rattle.wsm_head.specs.Behind.{KeptFor}
 use Rattle.wsm_head.proofs.NeededStand.{has_room, needed_stand, stand_through, taken_alike}
 use Rattle.wsm_part_programs.specs.Names.{of_names}
 use Rattle.wsm_keyed_told.specs.Tells.{Serves}
-use Rattle.wsm_intake.specs.declared.standing.Standing.{Standing}
-use Rattle.wsm_intake.specs.FirstLine.{first_of}
-use Rattle.wsm_intake.specs.Intake as intake
-use Rattle.wsm_intake.specs.Resuming.{left_behind}
-use Rattle.wsm_intake.specs.Standing.{Says}
-use Rattle.wsm_intake.proofs.Headings.{first_alone}
+use Rattle.wsm_log_text.specs.declared.standing.Standing.{Standing}
+use Rattle.wsm_log_text.specs.FirstLine.{first_of}
+use Rattle.wsm_log_text.specs.LogText as texts
+use Rattle.wsm_log_text.specs.Needed.{left_behind}
+use Rattle.wsm_log_text.specs.Standing.{Says}
+use Rattle.wsm_log_text.proofs.Headings.{first_alone}
 use Rattle.wsm_keyed_intake.specs.declared.intake.KeyedIntake.{KeyedIntake}
 use Rattle.wsm_keyed_intake.specs.KeyedLog.{KeyedLog, declared_by, kept_by, said_by, setting_by}
 use Rattle.wsm_keyed_intake.specs.Turns.{Grows}
@@ -104,7 +104,7 @@ module _ (g : KeyedLog) (records : ℤ) (lesser : IsTrue (is_program (program_wi
       };
       stands = stand;
       few = saved.few;
-      voices = subst (λ (o : Option Named). Knows (named_in g.clocks) o (intake.names_of g.source g.clocks (declared_by g all) before)) (sym voices) says.names;
+      voices = subst (λ (o : Option Named). Knows (named_in g.clocks) o (texts.names_of g.source g.clocks (declared_by g all) before)) (sym voices) says.names;
       taken = taken ∙ says.lines;
     }
 

@@ -1,22 +1,20 @@
 -- What a keyed intake has come to, as a text.
-use Rattle.std.proofs.Common.{◌≡◌, ◌∙◌, ◌++◌, ◌<◌, ◌^◌, ℕ, ℤ, List, length, Option, subst}
-use Rattle.std.specs.Prelude.{IsTrue, unsigned_abs}
+use Rattle.std.proofs.Common.{◌≡◌, ◌∙◌, ◌++◌, ◌<◌, ◌^◌, ℕ, ℤ, List, Option, subst}
+use Rattle.std.specs.Prelude.{unsigned_abs}
 use Rattle.wsm_record.specs.Event.{Event}
-use Rattle.wsm_program.specs.Program.{Program, is_program}
 use Rattle.wsm_turns.specs.declared.clocks.Clocks.{Clocks}
 use Rattle.wsm_turns.specs.Clocks.{count_in, named_in}
 use Rattle.wsm_turns.specs.Turns.{Setting}
-use Rattle.wsm_head.specs.StandsFor.{program_with, taken}
+use Rattle.wsm_head.specs.StandsFor.{taken}
 use Rattle.wsm_saved.specs.Events.{EventFits, event_text}
 use Rattle.wsm_saved.specs.Lists.{BytesFit, ListFits, bytes_text, list_text}
 use Rattle.wsm_saved.specs.Numbers.{number_text}
 use Rattle.wsm_saved_turns.specs.Turns.{ClocksFit, DoublesFit, NamesFit, clocks_text, doubles_text, names_text}
-use Rattle.wsm_intake.specs.Intake as intake
-use Rattle.wsm_intake.specs.Resuming.{left_behind}
-use Rattle.wsm_intake.specs.Saved.{needed_in_order}
-use Rattle.wsm_intake.specs.Standing.{AreFacts, Facts, Says}
-use Rattle.wsm_intake.specs.declared.standing.Standing.{Standing}
-use Rattle.wsm_intake.proofs.SavedFacts.{no_names, some_left}
+use Rattle.wsm_log_text.specs.LogText as texts
+use Rattle.wsm_log_text.specs.Needed.{left_behind, needed_in_order}
+use Rattle.wsm_log_text.specs.Standing.{AreFacts, Facts, Says}
+use Rattle.wsm_log_text.specs.declared.standing.Standing.{Standing}
+use Rattle.wsm_log_text.proofs.SavedFacts.{no_names, some_left}
 use Rattle.wsm_keyed_intake.specs.declared.intake.KeyedIntake.{KeyedIntake}
 use Rattle.wsm_keyed_intake.specs.KeyedLog.{KeyedLog, declared_by, names_of}
 use Rattle.wsm_keyed_intake.specs.Turns.{AreNamed}
@@ -35,7 +33,7 @@ module _ (g : KeyedLog) (t : KeyedIntake) (before : List (List ℕ)) (on : GoesO
   needed_now = needed_in_order (query_with g on.records all) by.other.fed
 
   abbrev voices : List (List ℕ)
-  voices = intake.names_of g.source g.clocks (declared_by g all) before
+  voices = texts.names_of g.source g.clocks (declared_by g all) before
 
   -- what is written, by these names
   abbrev pub all_text : ℕ → List ℕ

@@ -4,7 +4,7 @@ use Rattle.std.specs.Io.KnownBytes.{Appends}
 use Rattle.wsm_csv.specs.Device.{TakesPart}
 use Rattle.wsm_csv.proofs.Written.{Appends-join, Appends-start, TakesPart-last}
 use Rattle.wsm_log_rows.proofs.Reading.{newest_first}
-use Rattle.wsm_intake.specs.declared.totals.LogTotals.{LogTotals}
+use Rattle.wsm_log_text.specs.declared.totals.LogTotals.{LogTotals}
 use Rattle.wsm_keyed_intake.specs.declared.intake.KeyedIntake.{KeyedIntake}
 use Rattle.wsm_keyed_intake.specs.KeyedLog.{KeyedLog, log_text, log_turns, names_of, said_by, turns_text}
 use Rattle.wsm_keyed_intake.specs.Turns.{Ends, Fits, Turned}

@@ -1,7 +1,7 @@
 -- A keyed intake whose parts need not have been fed all events of the lines so far: others stand for them, by a program with the RECORDS
 -- that are left. What it writes is what one query over all names means for all lines.
 use Rattle.std.specs.Prelude.{◌≡◌, ◌≤◌, ℕ, ℤ, List, ◌∷◌, ◌++◌, length, IsTrue, unsigned_abs}
-use Rattle.wsm_program.specs.Program.{Program, is_program}
+use Rattle.wsm_program.specs.Program.{is_program}
 use Rattle.wsm_machine.specs.Meaning.{plan_of}
 use Rattle.wsm_turns.specs.Clocks.{named_in}
 use Rattle.wsm_turns.specs.Named.{Knows}
@@ -9,8 +9,8 @@ use Rattle.wsm_turns.specs.Turns.{Kept}
 use Rattle.wsm_head.specs.StandsFor.{program_with}
 use Rattle.wsm_head.specs.Behind.{KeptFor}
 use Rattle.wsm_part_programs.specs.Names.{of_names}
-use Rattle.wsm_intake.specs.FirstLine.{first_of}
-use Rattle.wsm_intake.specs.Intake as intake
+use Rattle.wsm_log_text.specs.FirstLine.{first_of}
+use Rattle.wsm_log_text.specs.LogText as texts
 use Rattle.wsm_keyed_intake.specs.declared.intake.KeyedIntake.{KeyedIntake}
 use Rattle.wsm_keyed_intake.specs.KeyedLog.{KeyedLog, declared_by, kept_by, names_of, said_by, said_next, turn_text}
 use Rattle.wsm_keyed_intake.specs.Turns.{Holds, Reads}
@@ -21,7 +21,7 @@ pub record GoesOnBy (g : KeyedLog) (records : ℤ) (all : List (List ℕ)) (t : 
   pub holds : Holds g.clocks (program_with records g.program) all t other
   pub stands : KeptFor (plan_of g.program) (of_names g.program all) records (kept_by g all before) other
   pub few : length other.stamps ≤ length (said_by g all before)
-  pub voices : Knows (named_in g.clocks) t.voices (intake.names_of g.source g.clocks (declared_by g all) before)
+  pub voices : Knows (named_in g.clocks) t.voices (texts.names_of g.source g.clocks (declared_by g all) before)
   pub taken : t.taken ≡ length (said_by g all before)
 
 -- after lines, by the names so far and whichever come with later lines

@@ -13,7 +13,7 @@ use Rattle.wsm_part_programs.specs.Names.{of_names}
 use Rattle.wsm_key_names.specs.Reading.{by_names}
 use Rattle.wsm_named_lines.specs.Names.{names_after_lines}
 use Rattle.wsm_keyed_told.specs.KeyedLines.{events_text}
-use Rattle.wsm_intake.specs.Intake.{Said, end_line, fault_text, said, said_at, turn_at}
+use Rattle.wsm_log_text.specs.LogText.{Said, end_line, fault_text, said, said_at, turn_at}
 
 -- a program, the source and the clocks of a log, the names that are there before the first line, and how many there may be: one that
 -- comes in a line that says an event is learned as long as there are fewer

@@ -6,9 +6,9 @@ use Rattle.wsm_semantics.specs.declared.ending.Totals.{Totals}
 use Rattle.wsm_log.specs.LinesOf.{AreAll, AreFirst}
 use Rattle.wsm_log_rows.specs.declared.end.LogEnd.{LogEnd}
 use Rattle.wsm_log_rows.specs.declared.end.LogEnd.TheVariants as ends
-use Rattle.wsm_intake.specs.declared.totals.LogCounts.{LogCounts}
-use Rattle.wsm_intake.specs.Counts.{counts_of}
-use Rattle.wsm_intake.specs.Turns.{line_of}
+use Rattle.wsm_log_text.specs.declared.totals.LogCounts.{LogCounts}
+use Rattle.wsm_log_text.specs.Counts.{counts_of}
+use Rattle.wsm_log_text.specs.LogText.{line_of}
 use Rattle.wsm_keyed_intake.specs.declared.intake.KeyedIntake.{KeyedIntake}
 use Rattle.wsm_keyed_intake.specs.KeyedLog.{KeyedLog, last_line, log_text, log_turns, names_of, query_behind, said_by, turns_text}
 use Rattle.wsm_keyed_intake.specs.Turns.{Fits}

@@ -1,9 +1,9 @@
 -- What a keyed intake has come to, as a text. It says the names in their order, which events the parts need and all else as it is; a run
 -- goes on from it as from the lines themselves. The events are those of all parts, the key of each by its number among the names.
-use Rattle.std.specs.Prelude.{◌≡◌, ◌<◌, ◌≤◌, ◌&&◌, ℕ, ℤ, nat_lt, Bool, List, ◌++◌, length, reverse, Option, is_some, IsTrue, unsigned_abs}
+use Rattle.std.specs.Prelude.{◌≡◌, ◌<◌, ◌≤◌, ◌&&◌, ℕ, ℤ, nat_lt, Bool, List, ◌++◌, length, Option, is_some, IsTrue, unsigned_abs}
 use Rattle.wsm_record.specs.Event.{Event}
 use Rattle.wsm_semantics.specs.Query.{Query}
-use Rattle.wsm_program.specs.Program.{Program, is_program}
+use Rattle.wsm_program.specs.Program.{is_program}
 use Rattle.wsm_machine.specs.Meaning.{plan_of}
 use Rattle.wsm_doubles.specs.Memory.{Memory}
 use Rattle.wsm_turns.specs.declared.waiting.Waiting.{Waiting}
@@ -14,12 +14,11 @@ use Rattle.wsm_head.specs.Behind.{KeptFor}
 use Rattle.wsm_part_programs.specs.Names.{of_names}
 use Rattle.wsm_saved.specs.Lists.{BytesFit, ListFits, bytes_text, list_text}
 use Rattle.wsm_saved.specs.Events.{EventFits, event_text}
-use Rattle.wsm_intake.specs.FirstLine.{first_of}
-use Rattle.wsm_intake.specs.Intake as intake
-use Rattle.wsm_intake.specs.Resuming.{left_behind}
-use Rattle.wsm_intake.specs.Saved.{needed_in_order}
-use Rattle.wsm_intake.specs.Standing.{AreFacts, Facts, Says, facts_text}
-use Rattle.wsm_intake.specs.declared.standing.Standing.{Standing}
+use Rattle.wsm_log_text.specs.FirstLine.{first_of}
+use Rattle.wsm_log_text.specs.LogText as texts
+use Rattle.wsm_log_text.specs.Needed.{left_behind, needed_in_order}
+use Rattle.wsm_log_text.specs.Standing.{AreFacts, Facts, Says, facts_text}
+use Rattle.wsm_log_text.specs.declared.standing.Standing.{Standing}
 use Rattle.wsm_keyed_intake.specs.declared.intake.KeyedIntake.{KeyedIntake}
 use Rattle.wsm_keyed_intake.specs.KeyedLog.{KeyedLog, declared_by, kept_by, names_of, said_by, setting_by}
 
@@ -32,7 +31,7 @@ facts_by g all before q k waiting known = record {
   stamps = k.stamps;
   told = k.told;
   waits = k.waits;
-  names = intake.names_of g.source g.clocks (declared_by g all) before;
+  names = texts.names_of g.source g.clocks (declared_by g all) before;
   known = known;
   memory = k.memory;
   waiting = waiting;

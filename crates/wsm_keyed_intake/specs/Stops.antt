@@ -7,8 +7,8 @@ use Rattle.wsm_lines.specs.Key.{are_same}
 use Rattle.wsm_log_rows.specs.declared.end.LogEnd.{LogEnd}
 use Rattle.wsm_log_rows.specs.declared.end.LogEnd.TheVariants as ends
 use Rattle.wsm_part_programs.specs.Keyless.{IsKeyless}
-use Rattle.wsm_keyed_intake.specs.declared.stop.KeyedLogStop.{KeyedLogStop}
-use Rattle.wsm_keyed_intake.specs.declared.stop.KeyedLogStop.TheVariants as stops
+use Rattle.wsm_ends.specs.declared.keyed_log.KeyedLogStop.{KeyedLogStop}
+use Rattle.wsm_ends.specs.declared.keyed_log.KeyedLogStop.TheVariants as stops
 use Rattle.wsm_keyed_intake.specs.KeyedLog.{KeyedLog}
 use Rattle.wsm_keyed_intake.specs.Run.{KeyedLogBroken}
 use Rattle.wsm_keyed_intake.specs.Turns.{AreNamed}

@@ -18,11 +18,10 @@ use Rattle.wsm_part_engines.specs.Fits as parts
 use Rattle.wsm_named_lines.specs.Reading.{Reading}
 use Rattle.wsm_keyed_told.specs.KeyedLines.{events_text}
 use Rattle.wsm_keyed_told.specs.Tells.{Serves}
-use Rattle.wsm_intake.specs.declared.totals.LogTotals.{LogTotals}
-use Rattle.wsm_intake.specs.Counts.{counts_of}
-use Rattle.wsm_intake.specs.Intake as intake
-use Rattle.wsm_intake.specs.Intake.{fault_count}
-use Rattle.wsm_intake.specs.Turns.{line_of}
+use Rattle.wsm_log_text.specs.declared.totals.LogTotals.{LogTotals}
+use Rattle.wsm_log_text.specs.Counts.{counts_of}
+use Rattle.wsm_log_text.specs.LogText as texts
+use Rattle.wsm_log_text.specs.LogText.{fault_count, line_of}
 use Rattle.wsm_keyed_intake.specs.declared.intake.KeyedIntake.{KeyedIntake}
 use Rattle.wsm_keyed_intake.specs.KeyedLog.{KeyedLog, declared_by, end_text, kept_by, last_line, names_of, query_behind, said_by, said_next, setting_by, turn_text}
 
@@ -58,7 +57,7 @@ pub record Holds (clocks : Option Clocks) (p : Program) (all : List (List ℕ)) 
 -- after lines, by these names
 pub record FitsBy (g : KeyedLog) (all : List (List ℕ)) (t : KeyedIntake) (before : List (List ℕ)) : Type 0 where
   pub holds : Holds g.clocks g.program all t (kept_by g all before)
-  pub voices : Knows (named_in g.clocks) t.voices (intake.names_of g.source g.clocks (declared_by g all) before)
+  pub voices : Knows (named_in g.clocks) t.voices (texts.names_of g.source g.clocks (declared_by g all) before)
   pub taken : t.taken ≡ length (said_by g all before)
   pub faults : t.faults ≡ counter (fault_count (said_by g all before))
   pub doubles : t.doubles ≡ counter (left_count (setting_by g.clocks g.program all) (said_by g all before))

@@ -11,10 +11,10 @@ use crate::passing::{identifiers_of, passes, stamp_among};
 use std::alloc::{AllocError, Global};
 use wsm_csv::{Device, DeviceFault, end_text, write_out};
 use wsm_engine::Totals;
-use wsm_intake::{LogCounts, LogTotals, add_fault, note_first};
 use wsm_key_names::KeyNames;
 use wsm_keyed_told::KeyedTold;
 use wsm_lines::{LineFault, LineRefusal, Source};
+use wsm_log_text::{LogCounts, LogTotals, add_fault, note_first};
 use wsm_named_lines::NamedLines;
 use wsm_part_engines::Parts;
 use wsm_turns::{
@@ -83,9 +83,8 @@ impl KeyedIntake {
     ghost use Rattle.wsm_part_programs.specs.Names.{of_names};
     ghost use Rattle.wsm_key_names.specs.Reading.{by_names, is_named};
     ghost use Rattle.wsm_keyed_told.specs.Tells.{Serves};
-    ghost use Rattle.wsm_intake.specs.Counts.{counts_of};
-    ghost use Rattle.wsm_intake.specs.Intake.{Said, fault_count, fault_text, left_at, line_behind, turn_at, voiced_in};
-    ghost use Rattle.wsm_intake.specs.Turns.{line_of};
+    ghost use Rattle.wsm_log_text.specs.Counts.{counts_of};
+    ghost use Rattle.wsm_log_text.specs.LogText.{Said, fault_count, fault_text, left_at, line_behind, turn_at, voiced_in, line_of};
     ghost use Rattle.wsm_keyed_intake.specs.KeyedLog.{KeyedLog, names_of, query_behind, said_by, setting_by};
     ghost use Rattle.wsm_keyed_intake.specs.GoesOn.{GoesOn, GoneOn};
     ghost use Rattle.wsm_keyed_intake.specs.Saved.{keeps_events};

@@ -7,7 +7,7 @@
 pub use intake::KeyedIntake;
 pub use log::{open_keyed_log, run_keyed_log};
 pub use run::{KeyedLogTotals, run_parts};
-pub use stop::KeyedLogStop;
+pub use wsm_ends::KeyedLogStop;
 
 mod intake;
 mod key_names;
@@ -15,4 +15,3 @@ mod log;
 mod passing;
 mod run;
 mod saving;
-mod stop;

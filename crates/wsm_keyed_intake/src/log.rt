@@ -11,10 +11,10 @@ ghost use Rattle.wsm_keyed_intake.specs.Turns.{AreNamed, IsOpened};
 
 use crate::intake::KeyedIntake;
 use crate::run::{KeyedLogTotals, run_parts};
-use crate::stop::KeyedLogStop;
 use std::alloc::Global;
 use std::io::Read;
 use wsm_csv::Device;
+use wsm_ends::KeyedLogStop;
 use wsm_key_names::KeyNames;
 use wsm_lines::{KeyNames as KeyNaming, Source};
 use wsm_log_rows::LogEnd;

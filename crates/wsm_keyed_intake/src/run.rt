@@ -13,11 +13,11 @@ use crate::intake::KeyedIntake;
 use std::alloc::Global;
 use std::io::Read;
 use wsm_csv::Device;
-use wsm_intake::LogTotals;
 use wsm_key_names::KeyNames;
 use wsm_lines::Source;
 use wsm_log::Lines;
 use wsm_log_rows::LogEnd;
+use wsm_log_text::LogTotals;
 use wsm_part_engines::Parts;
 use wsm_turns::{Clocks, Listener};
 

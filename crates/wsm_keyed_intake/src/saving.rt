@@ -11,9 +11,9 @@ use crate::intake::KeyedIntake;
 use crate::key_names::{restore_key_names, save_key_names};
 use std::alloc::{AllocError, Global};
 use wsm_doubles::Doubles;
-use wsm_intake::Standing;
 use wsm_key_names::KeyNames;
 use wsm_keyed_told::KeyedTold;
+use wsm_log_text::Standing;
 use wsm_named_lines::NamedLines;
 use wsm_part_engines::Parts;
 use wsm_record::Event;
@@ -30,8 +30,8 @@ impl KeyedIntake {
     ghost use Rattle.wsm_keyed_intake.specs.GoesOn.{GoesOn};
     ghost use Rattle.wsm_keyed_intake.specs.Saved.{IsRead, Saved, can_say, keeps_events};
 
-    /// Adds a text from which [`KeyedIntake::resume`] goes on, and answers whether it could: no line was taken, all RECORDS of the query
-    /// are used up, or the intake doesn't keep the events that its parts need.
+    /// Adds a text from which [`KeyedIntake::resume`] goes on, and answers whether it did. It doesn't where no line was taken,
+    /// all RECORDS of the query are used up, or the events that its parts need aren't kept.
     ///
     /// # Errors
     ///

@@ -12,8 +12,8 @@ use Rattle.wsm_rules.specs.Rules.{judge}
 use Rattle.wsm_inputs.specs.declared.end.End.{End}
 use Rattle.wsm_inputs.specs.declared.end.End.TheVariants as ends
 use Rattle.wsm_inputs.specs.Judged.{compiled, text_judged}
-use Rattle.wsm_keyed_run.specs.declared.stop.KeyedStop.{KeyedStop}
-use Rattle.wsm_keyed_run.specs.declared.stop.KeyedStop.TheVariants as stops
+use Rattle.wsm_ends.specs.declared.keyed.KeyedStop.{KeyedStop}
+use Rattle.wsm_ends.specs.declared.keyed.KeyedStop.TheVariants as stops
 
 -- ---- places
 
@@ -59,7 +59,7 @@ IsUnaccepted text end = ⊥
 -- a text that isn't run: nothing was written
 abbrev pub IsUnrun : List ℕ → KeyedStop → Type 0
 IsUnrun text stops.KeysClause = begins (codes "KEYS") (tokens text) ≡ true
-IsUnrun text stops.SaysKey = (says (codes "KEY") (tokens text) ≡ true) ⊎ ((p : Program) × IsByPlaces text p × (IsKeyless p → ⊥))
+IsUnrun text stops.ReadsKey = (says (codes "KEY") (tokens text) ≡ true) ⊎ ((p : Program) × IsByPlaces text p × (IsKeyless p → ⊥))
 IsUnrun text stops.Streams = (p : Program) × IsByPlaces text p × (p.header.form ≢ Panes)
 IsUnrun text (stops.End end) = IsUnaccepted text end
 

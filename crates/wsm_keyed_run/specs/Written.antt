@@ -8,8 +8,8 @@ use Rattle.wsm_csv.specs.Records.{AreAll, AreFirst}
 use Rattle.wsm_inputs.specs.declared.end.End.{End as Ending}
 use Rattle.wsm_inputs.specs.declared.end.End.TheVariants as ends
 use Rattle.wsm.specs.Written.{Cells, line_of}
-use Rattle.wsm_keyed_run.specs.declared.stop.KeyedStop.{KeyedStop}
-use Rattle.wsm_keyed_run.specs.declared.stop.KeyedStop.TheVariants as stops
+use Rattle.wsm_ends.specs.declared.keyed.KeyedStop.{KeyedStop}
+use Rattle.wsm_ends.specs.declared.keyed.KeyedStop.TheVariants as stops
 use Rattle.wsm_keyed_run.specs.Keyed.{Keyed, input_text, last_line, turns_text}
 use Rattle.wsm_keyed_run.specs.Places.{IsByPlaces, IsUnrun}
 

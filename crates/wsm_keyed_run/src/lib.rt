@@ -8,10 +8,9 @@
 
 pub use places::{accepted_by_places, begins_with_keys, says_key};
 pub use run::{KeyedTotals, checked_by_places, run_keyed, run_keyed_over, run_parts};
-pub use stop::KeyedStop;
 pub use turns::KeyedTurns;
+pub use wsm_ends::KeyedStop;
 
 mod places;
 mod run;
-mod stop;
 mod turns;

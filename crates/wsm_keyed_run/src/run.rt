@@ -12,11 +12,11 @@ ghost use Rattle.wsm_keyed_run.specs.Turns.{Fits, HasBlocks, Stands};
 ghost use Rattle.wsm_keyed_run.specs.Written.{Completes, EndsEarly, KeyedBroken, KeyedOver, KeyedWritten, Stops};
 
 use crate::places::{accepted_by_places, begins_with_keys, says_key};
-use crate::stop::KeyedStop;
 use crate::turns::KeyedTurns;
 use std::alloc::Global;
 use std::io::Read;
 use wsm_csv::{Device, ReadEnd, Rows};
+use wsm_ends::KeyedStop;
 use wsm_engine::Totals;
 use wsm_inputs::End;
 use wsm_key_names::KeyNames;
@@ -39,7 +39,7 @@ pub struct KeyedTotals {
 ///
 /// # Errors
 ///
-/// [`KeyedStop::KeysClause`], [`KeyedStop::SaysKey`] and [`KeyedStop::Streams`], and [`End::Refused`] and [`End::Rejected`] as of the
+/// [`KeyedStop::KeysClause`], [`KeyedStop::ReadsKey`] and [`KeyedStop::Streams`], and [`End::Refused`] and [`End::Rejected`] as of the
 /// text over places: then nothing is written. After [`End::Memory`] or [`End::ReadFailed`] the device took the lines of the first rows,
 /// those of each turn whole; after [`End::WriteFailed`] it took a beginning of the lines.
 pub fn run_keyed<R: Read + Drop, D: Device>(
@@ -100,7 +100,7 @@ pub fn checked_by_places(alloc: Global, text: &[u8]) -> Result<Verified, KeyedSt
         return Err(KeyedStop::KeysClause);
     }
     if says_key(text) {
-        return Err(KeyedStop::SaysKey);
+        return Err(KeyedStop::ReadsKey);
     }
     let verified = accepted_by_places(alloc, text)?;
     Ok(verified)
@@ -118,7 +118,7 @@ fn parts_of(alloc: Global, text: &[u8]) -> Result<Parts, KeyedStop>
     match Parts::open(alloc, verified) {
         Ok(parts) => Ok(parts),
         Err(PartsRefusal::Streams) => Err(KeyedStop::Streams),
-        Err(PartsRefusal::ReadsKey) => Err(KeyedStop::SaysKey),
+        Err(PartsRefusal::ReadsKey) => Err(KeyedStop::ReadsKey),
         Err(PartsRefusal::Memory) => Err(KeyedStop::End(End::Memory)),
     }
 }

@@ -3,10 +3,10 @@
 use csv::ByteRecord;
 use std::alloc::{AllocError, Global};
 use wsm_admission::Refusal;
-use wsm_csv::{Device, DeviceFault, RowRefusal, end_text, fault_text, write_out};
+use wsm_csv::{Device, DeviceFault, RowRefusal, end_text, fault_text, refusal_text, write_out};
 use wsm_engine::Totals;
 use wsm_key_names::{KeyNames, NamedEvents};
-use wsm_keyed_told::{add_refusal, add_rows};
+use wsm_keyed_told::add_rows;
 use wsm_part_engines::Parts;
 use wsm_record::RowFault;
 
@@ -103,10 +103,7 @@ impl KeyedTurns {
             OnOk result (self.new.lines.items ≡ self.old.lines.items ++ lines_text declared (refusal_lines (counter (length rows)) refusal)) }
         ensures others { self.new ≡ record self.old { lines = self.new.lines } }
     {
-        match refusal {
-            Some(why) => add_refusal(self.row_count(), why, &mut self.lines),
-            None => Ok(()),
-        }
+        refusal_text(self.row_count(), refusal, &mut self.lines)
     }
 
     // The turn of a row that is no event.

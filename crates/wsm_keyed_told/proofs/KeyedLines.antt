@@ -1,6 +1,6 @@
 -- Lines whose keys are the cells of names.
-use Rattle.std.proofs.Common.{◌≡◌, ◌∙◌, ◌++◌, ◌∷◌, ℕ, true, List, [], length, map, Option, Some, None, refl, sym, ap, append-nil, arith}
-use Rattle.std.specs.Prelude.{◌≢◌, nat_lt}
+use Rattle.std.proofs.Common.{◌≡◌, ◌∙◌, ◌++◌, ◌∷◌, ℕ, true, List, [], length, map, Option, Some, None, refl, sym, ap, arith}
+use Rattle.std.specs.Prelude.{nat_lt}
 use Rattle.std.specs.List.{AllByRecursion}
 use Rattle.std.proofs.lemmas.Bool.{ltb-true}
 use Rattle.std.proofs.lemmas.List.{map-append, length-map, get_or_append_left}
@@ -12,8 +12,8 @@ use Rattle.wsm_semantics.specs.declared.out_row.OutRow.{OutRow}
 use Rattle.wsm_semantics.specs.declared.out_row.OutRow.TheVariants.{Pane, Retract, Istream, Dstream, Rstream}
 use Rattle.wsm_semantics.specs.ByKey.{is_row_of}
 use Rattle.wsm_semantics.specs.ByNumber.{row_by}
-use Rattle.wsm_semantics.specs.Lines.{Line, Out, Refused, refusal_lines}
-use Rattle.wsm_semantics.specs.Text.{line_text, lines_text, name_at}
+use Rattle.wsm_semantics.specs.Lines.{Line, Out, refusal_lines}
+use Rattle.wsm_semantics.specs.Text.{lines_text, name_at}
 use Rattle.wsm_program.specs.Program.{Program}
 use Rattle.wsm_part_programs.specs.Names.{of_names}
 use Rattle.wsm_key_parts.specs.Merged.{place_of}
@@ -21,20 +21,6 @@ use Rattle.wsm_key_parts.specs.Parts.{declared_keys}
 use Rattle.wsm_csv.specs.KeyedLines.{key_text, keyed_text}
 use Rattle.wsm_key_names.specs.Cell.{cell_of, cells_of}
 use Rattle.wsm_keyed_told.specs.KeyedLines.{keyed_line, keyed_lines}
-
--- a refusal has a line, but for a late record
-told : (row : ℕ) (why : Refusal) → why ≢ refusal.Late → refusal_lines row (Some why) ≡ Refused row why ∷ []
-told row refusal.Late h = absurd (h refl)
-told row refusal.UnknownKey h = refl
-told row refusal.FieldRange h = refl
-told row refusal.TimeRange h = refl
-told row refusal.TooFarAhead h = refl
-told row refusal.RecordLimit h = refl
-told row refusal.NotRising h = refl
-told row refusal.UnknownSource h = refl
-
-pub told_text : (declared : Declared) (row : ℕ) (why : Refusal) → why ≢ refusal.Late → line_text declared (Refused row why) ≡ lines_text declared (refusal_lines row (Some why))
-told_text declared row why h = sym (append-nil (line_text declared (Refused row why))) ∙ ap (lines_text declared) (sym (told row why h))
 
 -- a line of a refusal has no key
 pub keyed_refusal : (d : Declared) (names : List (List ℕ)) (row : ℕ) (r : Option Refusal) → lines_text d (refusal_lines row r) ≡ keyed_lines d names (refusal_lines row r)

@@ -7,7 +7,7 @@ use Rattle.wsm_head.specs.StandsFor.{program_with, taken}
 use Rattle.wsm_part_programs.specs.Names.{of_names}
 use Rattle.wsm_part_engines.specs.Fits.{AreNamed, Fits}
 use Rattle.wsm_part_engines.specs.State.{State}
-use Rattle.wsm_intake.specs.Resuming.{fed_all}
+use Rattle.wsm_log_text.specs.Needed.{fed_all}
 use Rattle.wsm_keyed_told.specs.declared.told.KeyedTold.{KeyedTold}
 use Rattle.wsm_keyed_told.specs.Tells.{Serves}
 

@@ -4,7 +4,7 @@
 //! the events that go on of a log, whose keys are numbers among the names so far, and has the bytes of their turns.
 #![tactic(auto)]
 
-pub use rows::{add_refusal, add_rows};
+pub use rows::add_rows;
 pub use staying::KeyedStaying;
 pub use told::KeyedTold;
 

@@ -6,15 +6,15 @@ ghost use Rattle.wsm_record.specs.Event.{Event as AnyEvent, event_of};
 ghost use Rattle.wsm_program.specs.Program.{Program as AnyProgram, is_program};
 ghost use Rattle.wsm_head.specs.StandsFor.{program_with};
 ghost use Rattle.wsm_part_engines.specs.Fits.{Fits};
-ghost use Rattle.wsm_intake.specs.Resuming.{fed_all};
+ghost use Rattle.wsm_log_text.specs.Needed.{fed_all};
 ghost use Rattle.wsm_keyed_told.specs.Resuming.{IsLeft};
 
 use crate::told::{KeyedTold, is_named};
 use std::alloc::{AllocError, Global};
 use wsm_admission::has_fitting_values;
 use wsm_head::with_records;
-use wsm_intake::fewer_records;
 use wsm_key_names::KeyNames;
+use wsm_log_text::fewer_records;
 use wsm_part_engines::Parts;
 use wsm_program::Program;
 use wsm_record::Event;
@@ -28,7 +28,7 @@ impl KeyedTold {
     ghost use Rattle.wsm_head.specs.StandsFor.{program_with};
     ghost use Rattle.wsm_part_programs.specs.Names.{of_names};
     ghost use Rattle.wsm_part_engines.specs.Fits.{AreNamed};
-    ghost use Rattle.wsm_intake.specs.Resuming.{fed_all, left_behind};
+    ghost use Rattle.wsm_log_text.specs.Needed.{fed_all, left_behind};
     ghost use Rattle.wsm_keyed_told.specs.Tells.{Serves};
     ghost use Rattle.wsm_keyed_told.specs.Resuming.{GoesOnFrom};
 

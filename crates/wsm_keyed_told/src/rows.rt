@@ -2,16 +2,13 @@
 
 ghost use Rattle.std.specs.Prelude.{◌≡◌, ◌++◌, ◌<◌, ◌≤◌, ◌+◌, ◌*◌, ◌^◌, length, map, slice_get, OnOk, Some};
 ghost use Rattle.wsm_record.specs.declared.limits.TheConstants.{MAX_NAMES};
-ghost use Rattle.wsm_record.specs.Schema.{Declared};
-ghost use Rattle.wsm_semantics.specs.Lines.{Out, refusal_lines};
-ghost use Rattle.wsm_semantics.specs.Text.{lines_text};
+ghost use Rattle.wsm_semantics.specs.Lines.{Out};
 ghost use Rattle.wsm_semantics.specs.declared.out_row.OutRow.{OutRow as AnyRow};
 ghost use Rattle.wsm_key_parts.specs.Merged.{place_of as row_place};
 ghost use Rattle.wsm_keyed_told.specs.KeyedLines.{keyed_line, keyed_lines};
 
 use std::alloc::AllocError;
-use wsm_admission::Refusal;
-use wsm_csv::{WindowText, keyed_row_text, refusal_text};
+use wsm_csv::{WindowText, keyed_row_text};
 use wsm_key_names::KeyNames;
 use wsm_part_engines::Parts;
 use wsm_semantics::OutRow;
@@ -22,7 +19,6 @@ use wsm_windows::Window;
 /// # Errors
 ///
 /// Memory was refused.
-#[inline(always)]
 pub fn add_rows(parts: &Parts, names: &KeyNames, lines: &mut Vec<u8>) -> Result<(), AllocError>
     ensures { OnOk result (lines.new.items ≡ lines.old.items ++ keyed_lines parts.now.program.header.schema names.now (map Out parts.now.rows)) }
 {
@@ -79,19 +75,5 @@ fn place_of(row: &OutRow) -> usize
         OutRow::Pane { key, .. } => *key as usize,
         OutRow::Retract { key, .. } => *key as usize,
         _ => 0,
-    }
-}
-
-/// Adds the line of a refusal; a late record has none.
-///
-/// # Errors
-///
-/// Memory was refused.
-pub fn add_refusal(row: u64, why: Refusal, lines: &mut Vec<u8>) -> Result<(), AllocError>
-    ensures { (declared : Declared) → OnOk result (lines.new.items ≡ lines.old.items ++ lines_text declared (refusal_lines row (Some why))) }
-{
-    match why {
-        Refusal::Late => Ok(()),
-        _ => refusal_text(row, why, lines),
     }
 }

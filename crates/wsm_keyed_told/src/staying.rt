@@ -9,7 +9,7 @@ ghost use Rattle.wsm_part_engines.specs.Fits.{AreNamed, Fits};
 ghost use Rattle.wsm_keep.specs.Holds.{rows_with};
 ghost use Rattle.wsm_keep.specs.Keeper.{IsTold};
 ghost use Rattle.wsm_saved.specs.Events.{event_text};
-ghost use Rattle.wsm_intake.specs.Staying.{IsListed};
+ghost use Rattle.wsm_log_text.specs.Needed.{IsListed};
 ghost use Rattle.wsm_keyed_told.specs.Staying.{Cuts, CutsAll, IsAnswered};
 
 use std::alloc::{AllocError, Global};

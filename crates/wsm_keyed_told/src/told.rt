@@ -4,10 +4,11 @@ ghost use Rattle.std.specs.Prelude.{◌≡◌, ℕ, List, length};
 ghost use Rattle.wsm_record.specs.Event.{event_of};
 ghost use Rattle.wsm_part_engines.specs.Fits.{is_named};
 
-use crate::rows::{add_refusal, add_rows};
+use crate::rows::add_rows;
 use crate::staying::{KeyedStaying, note};
 use std::alloc::{AllocError, Global};
 use wsm_admission::{Refusal, has_fitting_values};
+use wsm_csv::refusal_text;
 use wsm_key_names::KeyNames;
 use wsm_part_engines::Parts;
 use wsm_record::{Event, Schema};
@@ -34,7 +35,7 @@ impl KeyedTold {
     ghost use Rattle.wsm_program.specs.Program.{Program, is_program};
     ghost use Rattle.wsm_part_programs.specs.Names.{of_names};
     ghost use Rattle.wsm_part_engines.specs.Fits.{AreNamed, Fits as PartsFit};
-    ghost use Rattle.wsm_intake.specs.Staying.{IsListed};
+    ghost use Rattle.wsm_log_text.specs.Needed.{IsListed};
     ghost use Rattle.wsm_keyed_told.specs.Tells.{Serves};
 
     /// Before the first event, by these names.
@@ -106,10 +107,7 @@ impl KeyedTold {
             OnOk result (self.new.lines.items ≡ self.old.lines.items ++ lines_text declared (refusal_lines number refusal)) }
         ensures others { self.new ≡ record self.old { lines = self.new.lines } }
     {
-        match refusal {
-            Some(why) => add_refusal(number, why, &mut self.lines),
-            None => Ok(()),
-        }
+        refusal_text(number, refusal, &mut self.lines)
     }
 }
 

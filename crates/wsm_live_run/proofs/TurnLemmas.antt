@@ -5,7 +5,7 @@ use Rattle.wsm_machine.specs.Meaning.{query_of}
 use Rattle.wsm_lines.specs.declared.source.Source.{Source}
 use Rattle.wsm_turns.specs.declared.clocks.Clocks.{Clocks}
 use Rattle.wsm_numbered.specs.Numbered.{lines_in, with_front}
-use Rattle.wsm_intake.specs.Intake.{said, turns_text}
+use Rattle.wsm_log_text.specs.LogText.{said, turns_text}
 use Rattle.wsm_live.specs.Told.{told}
 use Rattle.wsm_live_run.specs.Turns.{text_of, turn_by}
 

@@ -4,7 +4,7 @@ use Rattle.wsm_program.specs.Program.{Program}
 use Rattle.wsm_machine.specs.Meaning.{query_of}
 use Rattle.wsm_lines.specs.declared.source.Source.{Source}
 use Rattle.wsm_turns.specs.declared.clocks.Clocks.{Clocks}
-use Rattle.wsm_intake.specs.Intake.{said, said_at, turn_text}
+use Rattle.wsm_log_text.specs.LogText.{said, said_at, turn_text}
 use Rattle.wsm_live.specs.Told.{Turn}
 
 -- the bytes that are written for a line behind others

@@ -5,7 +5,7 @@ ghost use Rattle.wsm_program.specs.Program.{Program};
 ghost use Rattle.wsm_machine.specs.Meaning.{query_of};
 ghost use Rattle.wsm_lines.specs.declared.source.Source.{Source};
 ghost use Rattle.wsm_turns.specs.declared.clocks.Clocks.{Clocks};
-ghost use Rattle.wsm_intake.specs.Intake.{said, turns_text};
+ghost use Rattle.wsm_log_text.specs.LogText.{said, turns_text};
 ghost use Rattle.wsm_live.specs.Told.{told};
 ghost use Rattle.wsm_live_run.specs.Turns.{text_of, turn_by};
 ghost use Rattle.wsm_keyed_intake.specs.KeyedLog.{KeyedLog, log_turns};

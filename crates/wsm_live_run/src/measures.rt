@@ -3,7 +3,7 @@
 use crate::keyed_log_lines::KeyedLogLines;
 use crate::log_lines::LogLines;
 use std::alloc::AllocError;
-use wsm_intake::LogCounts;
+use wsm_log_text::LogCounts;
 use wsm_metrics::{Measured, Metric};
 use wsm_turns::Heard;
 

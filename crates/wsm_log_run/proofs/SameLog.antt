@@ -12,15 +12,15 @@ use Rattle.wsm_semantics.specs.declared.ending.Totals.{Totals}
 use Rattle.wsm_semantics.specs.Query.{Query, Datum, verdict_on}
 use Rattle.wsm_semantics.specs.Relation.{turn_rows}
 use Rattle.wsm_semantics.specs.Firings.{firings_so_far}
-use Rattle.wsm_semantics.specs.Lines.{Row, Line, Out, Faulty, Refused, End, events, refusal_lines, turn_lines, lines_so_far, end_line, all_lines}
+use Rattle.wsm_semantics.specs.Lines.{Row, Line, Out, Faulty, Refused, End, events, refusal_lines, turn_lines, lines_so_far, all_lines}
 use Rattle.wsm_semantics.specs.Text.{line_text, lines_text}
 use Rattle.wsm_csv.specs.Device.{TakesPart}
 use Rattle.wsm_lines.specs.declared.source.Source.{Source}
-use Rattle.wsm_intake.specs.Intake as intake
+use Rattle.wsm_log_text.specs.LogText as texts
 use Rattle.wsm_turns.specs.declared.clocks.Clocks.{Clocks}
 use Rattle.wsm_turns.specs.Numbered.{Numbered}
 use Rattle.wsm_turns.specs.Turns.{at_end, kept, setting_of}
-use Rattle.wsm_intake.specs.Intake.{Said, end_text, event_text, events_text, fault_count, fed_at_end, text, turn_at, turn_text, turns_text}
+use Rattle.wsm_log_text.specs.LogText.{Said, end_text, event_text, events_text, fault_count, fed_at_end, text, turn_at, turn_text, turns_text}
 use Rattle.wsm_log_rows.specs.declared.end.LogEnd.{LogEnd}
 use Rattle.wsm_log_rows.specs.declared.end.LogEnd.TheVariants as log
 use Rattle.wsm_intake.specs.Run.{BreaksOff, Completes, EndsEarly, LogBroken, LogWritten, read_by}
@@ -108,7 +108,7 @@ module _ (q : Query) (sel : ℕ → List Value → Bool) (row : ℕ → List Dat
   turns_same clocks [] = refl
   turns_same clocks (x ∷ before) = (λ i. turns_same clocks before i ++ turn_text_same clocks before x i)
 
-  end_same : (clocks : Option Clocks) (all : List Said) → intake.end_line q clocks all ≡ intake.end_line m clocks all
+  end_same : (clocks : Option Clocks) (all : List Said) → texts.end_line q clocks all ≡ texts.end_line m clocks all
   end_same clocks all =
       let past = fed_at_end q clocks all in
       ap (λ (n : ℕ). End (length all) (admitted_count q.clock q.shape q.declared past) (counter (late_count q.clock q.shape q.declared past)) (counter (fault_count all + refused_count q.clock q.shape q.declared past)) n) (panes_same past)

@@ -4,17 +4,11 @@ use Rattle.wsm_semantics.specs.Query.{Query}
 use Rattle.wsm_semantics.specs.declared.ending.Totals.{Totals}
 use Rattle.wsm_lines.specs.declared.source.Source.{Source}
 use Rattle.wsm_log_rows.specs.declared.end.LogEnd.{LogEnd}
-use Rattle.wsm_log_rows.specs.declared.end.LogEnd.TheVariants as log
 use Rattle.wsm_turns.specs.declared.clocks.Clocks.{Clocks}
-use Rattle.wsm_intake.specs.declared.totals.LogTotals.{LogTotals}
+use Rattle.wsm_log_text.specs.declared.totals.LogTotals.{LogTotals}
 use Rattle.wsm_intake.specs.Run.{LogBroken}
 use Rattle.wsm_inputs.specs.declared.end.End.{End}
-use Rattle.wsm_inputs.specs.declared.end.End.TheVariants.{Memory, ReadFailed, WriteFailed}
-
-abbrev pub end_of_log : LogEnd → End
-end_of_log log.Memory = Memory
-end_of_log log.ReadFailed = ReadFailed
-end_of_log log.WriteFailed = WriteFailed
+use Rattle.wsm_ends.specs.Ends.{end_of_log}
 
 -- how a run ended, with the numbers of its last line alone
 abbrev pub totals_in : Result LogTotals End → Result Totals End

@@ -4,8 +4,8 @@
 //! device what the source and the query mean for its lines.
 #![tactic(auto)]
 
-pub use run::{end_of_log, run_log};
-pub use wsm_intake::{Listener, LogCounts, LogTotals};
-pub use wsm_turns::Heard;
+pub use run::run_log;
+pub use wsm_log_text::LogTotals;
+pub use wsm_turns::Listener;
 
 mod run;

@@ -8,17 +8,18 @@ ghost use Rattle.wsm_intake.specs.Run.{LogCounted, LogWritten};
 ghost use Rattle.wsm_inputs.specs.declared.input.Input.{Input as AnyInput};
 ghost use Rattle.wsm_inputs.specs.Inputs.{EndsAs, IsAccepted};
 ghost use Rattle.wsm_inputs.specs.Stated.{KeepsTo};
-ghost use Rattle.wsm_log_run.specs.Logs.{LogStops, end_of_log, totals_in};
+ghost use Rattle.wsm_log_run.specs.Logs.{LogStops, totals_in};
 
 use std::alloc::Global;
 use std::io::Read;
 use wsm_csv::Device;
+use wsm_ends::end_of_log;
 use wsm_inputs::{End, keeps_to_stated};
-use wsm_intake::{Listener, LogTotals, run_log as run_intake};
+use wsm_intake::run_log as run_intake;
 use wsm_lines::Source;
-use wsm_log_rows::LogEnd;
+use wsm_log_text::LogTotals;
 use wsm_rules::Verified;
-use wsm_turns::Clocks;
+use wsm_turns::{Clocks, Listener};
 
 /// Runs an accepted program over the lines of a log, by a source that says how a line is read, and with the watermarks that
 /// the log's clocks make, where it has any. Each line is read and its turn taken, and the device is given what is written for it before the
@@ -50,16 +51,5 @@ pub fn run_log<R: Read + Drop, D: Device, L: Listener>(
     match run_intake(alloc, verified, source, clocks, reader, out, listener) {
         Ok(totals) => Ok(totals),
         Err(end) => Err(end_of_log(end)),
-    }
-}
-
-/// The end of a run that a log's run ends with.
-pub fn end_of_log(end: LogEnd) -> End
-    ensures { result ≡ end_of_log end }
-{
-    match end {
-        LogEnd::Memory => End::Memory,
-        LogEnd::ReadFailed => End::ReadFailed,
-        LogEnd::WriteFailed => End::WriteFailed,
     }
 }

@@ -8,8 +8,9 @@ use std::fs::{self, File};
 use std::io::{self, Read};
 use std::os::unix::fs::MetadataExt;
 use std::rt::Files;
-use wsm::{End, Guarded, Shares, SharesRefusal, deal_over};
-use wsm_deal::add_part;
+use wsm_csv::Guarded;
+use wsm_deal::{Shares, SharesRefusal, add_part, deal_over};
+use wsm_inputs::End;
 use wsm_job::{Stop, WordsFault, end_of, read, write_all};
 use wsm_words::{DealJob, number_of};
 

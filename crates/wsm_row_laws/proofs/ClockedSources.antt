@@ -13,7 +13,7 @@ use Rattle.wsm_lines.specs.declared.source.Source.{Source}
 use Rattle.wsm_turns.specs.declared.clocks.Clocks.{Clocks}
 use Rattle.wsm_turns.specs.declared.voice.Voice.{Voice}
 use Rattle.wsm_turns.specs.Turns.{spoken_by}
-use Rattle.wsm_intake.specs.Intake.{Said, said, voiced_line}
+use Rattle.wsm_log_text.specs.LogText.{Said, said, voiced_line}
 use Rattle.wsm_turn_laws.specs.Delivered.{AllLeaveMark, LeavesMark}
 use Rattle.wsm_row_laws.proofs.Sayable.{any, if_ok}
 

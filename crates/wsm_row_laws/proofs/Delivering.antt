@@ -15,7 +15,7 @@ use Rattle.wsm_turns.specs.declared.voice.Voice.{Voice}
 use Rattle.wsm_turns.specs.declared.voice.Voice.TheVariants.{Key, Named, Silent}
 use Rattle.wsm_turns.specs.Voices.{stamp_by}
 use Rattle.wsm_turns.specs.Turns.{Kept, kept, passing_by, setting_of, stamp_of, turn_by}
-use Rattle.wsm_intake.specs.Intake.{Said}
+use Rattle.wsm_log_text.specs.LogText.{Said}
 use Rattle.wsm_row_laws.specs.Delivered.{AreSent, deliveries, delivery_of, seen}
 
 if_some : {A : Type 0} (b : Bool) (x y : A) → (if b then Some x else None) ≡ Some y → (b ≡ true) × (x ≡ y)

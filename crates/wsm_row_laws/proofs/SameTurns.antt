@@ -28,8 +28,8 @@ use Rattle.wsm_lines.specs.Fault.{on_ok, or_none}
 use Rattle.wsm_lines.specs.Said.{clock_of, identifier_of, said_of, taken_of}
 use Rattle.wsm_lines.specs.Scalar.{Taken}
 use Rattle.wsm_log_rows.specs.Rows.{Said}
-use Rattle.wsm_intake.specs.Intake as intake
-use Rattle.wsm_intake.specs.Intake.{end_text, event_text, events_text, fault_count, line_behind, turn_text, voiced_in}
+use Rattle.wsm_log_text.specs.LogText as texts
+use Rattle.wsm_log_text.specs.LogText.{event_text, events_text, fault_count, line_behind, turn_text, voiced_in}
 use Rattle.wsm_turns.specs.Numbered.{Numbered}
 use Rattle.wsm_row_laws.specs.SaidRows.{row_said}
 use Rattle.wsm_row_laws.specs.SameRuns.{AreWithout, EndsAlike, WritesAlike, plain, refused_text}
@@ -133,6 +133,6 @@ pub are_without : (s : Source) (d : Declared) → s.identifier ≡ None → (lin
 are_without s d none [] = refl
 are_without s d none (line ∷ before) =
     let without : identifier_of s before line ≡ None = ap (λ p. or_none (on_ok (taken_of s before line) (identifier_at p))) none ∙ no_identifier (taken_of s before line) in
-    let key = by_key d (intake.names_of s None d before) (clock_of s before line) (said_of s d before line) in
-    let first : intake.said_at s None d before line ≡ plain (said_of s d before line) = λ j. spoken_by (without j) (key j) (said_of s d before line) in
+    let key = by_key d (texts.names_of s None d before) (clock_of s before line) (said_of s d before line) in
+    let first : texts.said_at s None d before line ≡ plain (said_of s d before line) = λ j. spoken_by (without j) (key j) (said_of s d before line) in
     λ j. first j ∷ are_without s d none before j

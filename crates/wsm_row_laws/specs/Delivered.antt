@@ -7,7 +7,7 @@ use Rattle.wsm_semantics.specs.Query.{Query}
 use Rattle.wsm_semantics.specs.Deliveries.{passing}
 use Rattle.wsm_doubles.specs.Passing.{TextDelivery, TextPassing, Comes, Told, numbered_delivery, passing_texts}
 use Rattle.wsm_turns.specs.Turns.{Kept, Spoken, kept, setting_of, stamp_of}
-use Rattle.wsm_intake.specs.Intake.{Said}
+use Rattle.wsm_log_text.specs.LogText.{Said}
 
 -- an event with its identifier as a delivery; a record without one is none
 abbrev pub delivery_of : Event → Option (List ℕ) → List TextDelivery

@@ -11,17 +11,17 @@ use Rattle.wsm_lines.specs.declared.fault.LineFault.{LineFault}
 use Rattle.wsm_lines.specs.declared.source.Source.{Source}
 use Rattle.wsm_log_rows.specs.Rows.{Said}
 use Rattle.wsm_turns.specs.Turns.{spoken}
-use Rattle.wsm_intake.specs.Intake as intake
-use Rattle.wsm_intake.specs.Intake.{end_text, turn_text}
+use Rattle.wsm_log_text.specs.LogText as texts
+use Rattle.wsm_log_text.specs.LogText.{end_text, turn_text}
 use Rattle.wsm_row_laws.specs.SaidRows.{row_said, said}
 
 -- what a line says, with no identifier
-abbrev pub plain : Said → intake.Said
+abbrev pub plain : Said → texts.Said
 plain x = spoken None x
 
 -- by a source without identifiers no line has one
 abbrev pub AreWithout : Source → Declared → List (List ℕ) → Type 0
-AreWithout s d lines = intake.said s None d lines ≡ map plain (said s d lines)
+AreWithout s d lines = texts.said s None d lines ≡ map plain (said s d lines)
 
 abbrev pub refused_text : ℕ → List ℕ → List ℕ
 refused_text number word = codes "refused," ++ decimal number ++ codes "," ++ word ++ codes "\n"

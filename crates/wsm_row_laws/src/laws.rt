@@ -10,7 +10,7 @@ ghost use Rattle.wsm_semantics.specs.Query.{Query};
 ghost use Rattle.wsm_log_rows.specs.Rows.{Said};
 ghost use Rattle.wsm_turns.specs.declared.clocks.Clocks.{Clocks};
 ghost use Rattle.wsm_turn_laws.specs.Delivered.{CountOnce, EndsDeliveries, FeedsDeliveries, Suits};
-ghost use Rattle.wsm_intake.specs.Intake.{Said as SaidWith, said as said_with};
+ghost use Rattle.wsm_log_text.specs.LogText.{Said as SaidWith, said as said_with};
 ghost use Rattle.wsm_row_laws.specs.Delivered.{AreSent, PassesDeliveries};
 ghost use Rattle.wsm_row_laws.specs.SameRuns.{AreWithout, EndsAlike, WritesAlike};
 ghost use Rattle.wsm_row_laws.specs.SaidRows.{AreReadBack, AreSayable, said};

@@ -2,7 +2,8 @@
 
 use crate::sources::SourceFile;
 use std::alloc::Global;
-use wsm::{End, SharesRefusal};
+use wsm_deal::SharesRefusal;
+use wsm_inputs::End;
 use wsm_job::{Stop, WordsFault, number_in};
 use wsm_key_names::{KeyNames, KeyNamesRefusal};
 use wsm_words::Named;

@@ -6,7 +6,7 @@ ghost use Rattle.wsm_turns.specs.Clocks.{AreClocks};
 use std::fs;
 use std::io::ErrorKind;
 use std::rt::Files;
-use wsm::End;
+use wsm_inputs::End;
 use wsm_job::{Stop, end_of, read};
 use wsm_lines::Source;
 use wsm_rules::Verified;

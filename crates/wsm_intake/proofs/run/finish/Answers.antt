@@ -4,7 +4,7 @@ use Rattle.std.specs.Io.KnownBytes.{Appends}
 use Rattle.wsm_csv.specs.Device.{TakesPart}
 use Rattle.wsm_csv.proofs.Written.{Appends-join, Keeps-Appends, TakesPart-all, TakesPart-last}
 use Rattle.wsm_machine.specs.Meaning.{query_of}
-use Rattle.wsm_intake.specs.Intake.{turns_text}
+use Rattle.wsm_log_text.specs.LogText.{turns_text}
 use Rattle.wsm_intake.specs.Run.{read_by}
 use Rattle.wsm_intake.proofs.Texts.{last_text}
 use Rattle.wsm_intake.proofs.run.finish.Goals as goal

@@ -1,5 +1,5 @@
 use Rattle.std.proofs.Common.{[]}
-use Rattle.wsm_intake.proofs.GoingOn.{fault_alone}
+use Rattle.wsm_log_text.proofs.FirstLines.{fault_alone}
 use Rattle.wsm_intake.proofs.saving.read_first.Goals as goal
 
 pub returns-in-Ok : goal.returns-in-Ok

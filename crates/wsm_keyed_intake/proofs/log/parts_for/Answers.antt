@@ -1,7 +1,7 @@
 use Rattle.std.proofs.Common.{◌∙◌, sym}
 use Rattle.std.proofs.lemmas.Bool.{true≢false}
-use Rattle.wsm_keyed_intake.specs.declared.stop.KeyedLogStop.{KeyedLogStop}
-use Rattle.wsm_keyed_intake.specs.declared.stop.KeyedLogStop.TheVariants as stops
+use Rattle.wsm_ends.specs.declared.keyed_log.KeyedLogStop.{KeyedLogStop}
+use Rattle.wsm_ends.specs.declared.keyed_log.KeyedLogStop.TheVariants as stops
 use Rattle.wsm_keyed_intake.specs.KeyedLog.{KeyedLog}
 use Rattle.wsm_keyed_intake.specs.Stops.{IsUnopened, IsUnrun}
 use Rattle.wsm_keyed_intake.proofs.log.parts_for.Goals as goal

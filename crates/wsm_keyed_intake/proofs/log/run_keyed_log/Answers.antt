@@ -3,7 +3,7 @@ use Rattle.std.proofs.lemmas.Result.{err_from_is_err_and}
 use Rattle.std.specs.Io.KnownBytes.{Keeps}
 use Rattle.wsm_program.specs.Program.{Program}
 use Rattle.wsm_log_rows.specs.declared.end.LogEnd.TheVariants.{WriteFailed}
-use Rattle.wsm_keyed_intake.specs.declared.stop.KeyedLogStop.TheVariants as stops
+use Rattle.wsm_ends.specs.declared.keyed_log.KeyedLogStop.TheVariants as stops
 use Rattle.wsm_keyed_intake.specs.KeyedLog.{KeyedLog}
 use Rattle.wsm_keyed_intake.specs.Run.{KeyedLogBroken, KeyedLogCounted, KeyedLogWritten}
 use Rattle.wsm_keyed_intake.specs.Stops.{IsUnrun}

@@ -1,5 +1,5 @@
 use Rattle.std.specs.Prelude.{Result, Ok, Err, IfErr, IfOk, List, ℕ}
-use Rattle.wsm_intake.specs.declared.totals.LogTotals.{LogTotals}
+use Rattle.wsm_log_text.specs.declared.totals.LogTotals.{LogTotals}
 use Rattle.wsm_log_rows.specs.declared.end.LogEnd.{LogEnd}
 use Rattle.wsm_keyed_intake.specs.Run.{Completes, EndsEarly}
 use Rattle.wsm_keyed_intake.proofs.run.take_log.Goals as goal

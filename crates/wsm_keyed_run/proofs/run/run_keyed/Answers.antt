@@ -1,7 +1,7 @@
 use Rattle.std.proofs.Common.{◌≡◌, refl, subst, inl, inr}
 use Rattle.std.proofs.lemmas.Result.{err_from_is_err_and}
 use Rattle.wsm_inputs.specs.declared.end.End.TheVariants.{WriteFailed}
-use Rattle.wsm_keyed_run.specs.declared.stop.KeyedStop.TheVariants.{End}
+use Rattle.wsm_ends.specs.declared.keyed.KeyedStop.TheVariants.{End}
 use Rattle.wsm_keyed_run.specs.Keyed.{Keyed}
 use Rattle.wsm_keyed_run.specs.Places.{IsUnrun}
 use Rattle.wsm_inputs.proofs.Unwritten.{Keeps-same}

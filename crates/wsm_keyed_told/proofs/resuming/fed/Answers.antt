@@ -2,8 +2,8 @@ use Rattle.std.proofs.Common.{◌≡◌, ◌∙◌, true, map, take, sym, subst,
 use Rattle.std.proofs.lemmas.List.{take_all}
 use Rattle.wsm_record.specs.Event.{event_of}
 use Rattle.wsm_part_engines.specs.Fits.{Fits, is_named}
-use Rattle.wsm_intake.specs.Resuming.{fed_all}
-use Rattle.wsm_intake.proofs.FedAll.{fed_more}
+use Rattle.wsm_log_text.specs.Needed.{fed_all}
+use Rattle.wsm_log_text.proofs.FedAll.{fed_more}
 use Rattle.wsm_keyed_told.proofs.resuming.fed.Goals as goal
 
 pub loop-event-preserved : goal.loop-event-preserved

@@ -2,7 +2,7 @@ use Rattle.std.proofs.Common.{◌≡◌, ℕ, List, length, map, take}
 use Rattle.wsm_record.specs.Event.{Event, event_of}
 use Rattle.wsm_program.specs.Program.{Program}
 use Rattle.wsm_part_engines.specs.Fits.{Fits}
-use Rattle.wsm_intake.specs.Resuming.{fed_all}
+use Rattle.wsm_log_text.specs.Needed.{fed_all}
 use Rattle.wsm_keyed_told.proofs.resuming.fed.Given as goal
 
 -- the events so far were taken

@@ -5,7 +5,7 @@ use Rattle.wsm_program.specs.Program.{Program}
 use Rattle.wsm_head.specs.StandsFor.{program_with, taken}
 use Rattle.wsm_part_programs.specs.Names.{of_names}
 use Rattle.wsm_part_engines.specs.Fits as parts
-use Rattle.wsm_intake.specs.Resuming.{fed_all}
+use Rattle.wsm_log_text.specs.Needed.{fed_all}
 use Rattle.wsm_keyed_told.proofs.ByNames.{fits_any}
 use Rattle.wsm_keyed_told.proofs.resuming.opened_behind.Goals as goal
 

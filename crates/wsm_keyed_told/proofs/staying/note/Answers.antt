@@ -1,7 +1,6 @@
 use Rattle.std.proofs.Common.{◌≡◌, ◌∙◌, ◌∷◌, List, SFits, w64, to_z-of_z, sym, ap}
 use Rattle.std.specs.Prelude.{is_none}
 use Rattle.wsm_record.specs.Event.{Event, event_of}
-use Rattle.wsm_admission.specs.declared.verdict.Refusal.{Refusal}
 use Rattle.wsm_semantics.specs.Query.{effect_of, is_taken, mark}
 use Rattle.wsm_engine.specs.Meaning.{selects_record}
 use Rattle.wsm_cut.proofs.Judging.{none_is}
@@ -10,7 +9,7 @@ use Rattle.wsm_keep.specs.Staying.{events_in}
 use Rattle.wsm_keep.proofs.OfEvents.{events_with}
 use Rattle.wsm_saved.specs.Events.{event_text}
 use Rattle.wsm_part_programs.specs.Names.{of_names}
-use Rattle.wsm_intake.proofs.StayingEvents.{some_in}
+use Rattle.wsm_log_text.proofs.NeededEvents.{some_in}
 use Rattle.wsm_keyed_told.specs.Staying.{Cuts, CutsAll}
 use Rattle.wsm_keyed_told.proofs.ByNames.{Naming, on_ok_all}
 use Rattle.std.proofs.lemmas.Result.{on_ok_weaker}

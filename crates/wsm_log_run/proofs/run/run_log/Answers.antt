@@ -12,7 +12,8 @@ use Rattle.wsm_inputs.specs.declared.end.End.TheVariants.{WriteFailed}
 use Rattle.wsm_inputs.specs.Ends.{hides_memory}
 use Rattle.wsm_inputs.specs.Inputs.{EndsAs, IsAccepted}
 use Rattle.wsm_inputs.specs.declared.input.Input.{Input}
-use Rattle.wsm_log_run.specs.Logs.{LogStops, end_of_log}
+use Rattle.wsm_ends.specs.Ends.{end_of_log}
+use Rattle.wsm_log_run.specs.Logs.{LogStops}
 use Rattle.wsm_inputs.proofs.RunsBeforeRows.{begun}
 use Rattle.wsm_log_run.proofs.SameLog.{log_broken, log_written}
 use Rattle.wsm_program.specs.Program.{Program}

@@ -1,5 +1,5 @@
 use Rattle.std.specs.Prelude.{Some}
-use Rattle.wsm_intake.specs.Intake.{said}
+use Rattle.wsm_log_text.specs.LogText.{said}
 use Rattle.wsm_row_laws.proofs.ClockedSources.{leave_mark}
 use Rattle.wsm_row_laws.proofs.laws.counts_deliveries.Goals as goal
 

@@ -1,7 +1,7 @@
 use Rattle.std.proofs.Common.{length}
 use Rattle.wsm_turns.specs.Clocks.{count_in}
 use Rattle.wsm_turns.specs.Turns.{kept}
-use Rattle.wsm_intake.specs.Intake.{said}
+use Rattle.wsm_log_text.specs.LogText.{said}
 use Rattle.wsm_intake.specs.Turns.{setting_by}
 use Rattle.wsm_intake.proofs.intake.Intake.counts.Goals as goal
 

@@ -4,8 +4,8 @@ use Rattle.wsm_semantics.specs.Text.{line_text}
 use Rattle.wsm_machine.specs.Meaning.{query_of}
 use Rattle.wsm_turns.specs.Clocks.{count_in}
 use Rattle.wsm_turns.specs.Turns.{at_end, fed_with, kept}
-use Rattle.wsm_intake.specs.Intake.{end_line, events_text, said}
-use Rattle.wsm_intake.specs.Turns.{line_of, setting_by}
+use Rattle.wsm_log_text.specs.LogText.{end_line, events_text, said, line_of}
+use Rattle.wsm_intake.specs.Turns.{setting_by}
 use Rattle.wsm_intake.proofs.intake.Intake.end.Goals as goal
 
 pub returns : goal.returns

@@ -11,8 +11,8 @@ use Rattle.wsm_head.specs.StandsFor.{program_with, records_left}
 use Rattle.wsm_intake.specs.declared.told.Told.{Told}
 use Rattle.wsm_intake.specs.Tells.{Serves}
 use Rattle.wsm_intake.specs.Turns.{setting_by}
-use Rattle.wsm_intake.specs.Resuming.{GoesOnFrom, left_behind}
-use Rattle.wsm_intake.specs.Saved.{needed_in_order}
+use Rattle.wsm_intake.specs.Resuming.{GoesOnFrom}
+use Rattle.wsm_log_text.specs.Needed.{left_behind, needed_in_order}
 use Rattle.wsm_intake.proofs.Resumed.{few_records, goes_on, reads_on, recalls_on, serves_again}
 use Rattle.wsm_intake.proofs.intake.Intake.go_on.Goals as goal
 

@@ -10,8 +10,9 @@ use Rattle.wsm_saved.specs.Events.{event_text}
 use Rattle.wsm_saved.specs.Lists.{list_text}
 use Rattle.wsm_saved_turns.proofs.Reading.{both}
 use Rattle.wsm_intake.specs.Turns.{setting_by}
-use Rattle.wsm_intake.specs.Standing.{AreFacts, Says}
-use Rattle.wsm_intake.specs.Saved.{facts_of, needed_in_order}
+use Rattle.wsm_log_text.specs.Standing.{AreFacts, Says}
+use Rattle.wsm_intake.specs.Saved.{facts_of}
+use Rattle.wsm_log_text.specs.Needed.{needed_in_order}
 use Rattle.wsm_intake.proofs.intake.Intake.resume.Goals as goal
 
 pub returns : goal.returns

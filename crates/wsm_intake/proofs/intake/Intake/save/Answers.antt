@@ -8,12 +8,13 @@ use Rattle.wsm_saved.specs.Events.{event_text}
 use Rattle.wsm_saved.specs.Lists.{BytesFit, bytes_text, list_text}
 use Rattle.wsm_saved.specs.Numbers.{number_text}
 use Rattle.wsm_saved_turns.specs.Turns.{DoublesFit, clocks_text, doubles_text, names_text}
-use Rattle.wsm_intake.specs.Intake.{names_of}
+use Rattle.wsm_log_text.specs.LogText.{names_of}
 use Rattle.wsm_intake.specs.GoesOn.{kept_of}
-use Rattle.wsm_intake.specs.Resuming.{left_behind}
-use Rattle.wsm_intake.specs.Saved.{keeps_events, needed_in_order}
-use Rattle.wsm_intake.proofs.Behind.{behind, grown_through}
-use Rattle.wsm_intake.proofs.SavedFacts.{is_saved, known_itself, left_alike, named_of, names_in, said_each, served_on, some_and_some}
+use Rattle.wsm_log_text.specs.Needed.{left_behind, needed_in_order}
+use Rattle.wsm_intake.specs.Saved.{keeps_events}
+use Rattle.wsm_log_text.proofs.Behind.{behind, grown_through}
+use Rattle.wsm_intake.proofs.SavedFacts.{is_saved, served_on}
+use Rattle.wsm_log_text.proofs.SavedFacts.{known_itself, left_alike, named_of, names_in, said_each, some_and_some}
 use Rattle.wsm_intake.proofs.intake.Intake.save.Goals as goal
 
 pub returns-clause-goes_on : goal.returns-clause-goes_on

@@ -14,7 +14,7 @@ use Rattle.wsm_turns.proofs.Remembering.{mark_rises, remembers_on}
 use Rattle.wsm_turns.proofs.Stamps.{clock_known, time_small}
 use Rattle.wsm_intake.specs.Tells.{Tells}
 use Rattle.wsm_intake.specs.Turns.{Speaks, setting_by, spoken_read}
-use Rattle.wsm_intake.proofs.Counts.{no_more}
+use Rattle.wsm_log_text.proofs.Counts.{no_more}
 use Rattle.wsm_intake.proofs.intake.Intake.serve.Goals as goal
 
 pub returns-in-None : goal.returns-in-None

@@ -10,7 +10,7 @@ use Rattle.wsm_turns.specs.Turns.{turn_by}
 use Rattle.wsm_turns.specs.Voices.{voiced}
 use Rattle.wsm_intake.specs.declared.intake.Intake.{Intake}
 use Rattle.wsm_intake.specs.Turns.{Goes, setting_by, spoken_read}
-use Rattle.wsm_intake.proofs.Counts.{some_more}
+use Rattle.wsm_log_text.proofs.Counts.{some_more}
 use Rattle.wsm_intake.proofs.intake.Intake.serve_stamped.Goals as goal
 
 pub returns : goal.returns

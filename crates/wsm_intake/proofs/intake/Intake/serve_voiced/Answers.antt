@@ -12,7 +12,7 @@ use Rattle.wsm_turns.proofs.Remembering.{mark_rises}
 use Rattle.wsm_turns.proofs.Stamps.{told_time}
 use Rattle.wsm_intake.specs.Tells.{Tells, Took}
 use Rattle.wsm_intake.specs.Turns.{Goes, setting_by, spoken_read}
-use Rattle.wsm_intake.proofs.Counts.{no_more, one_more_fault}
+use Rattle.wsm_log_text.proofs.Counts.{no_more, one_more_fault}
 use Rattle.wsm_intake.proofs.intake.Intake.serve_voiced.Goals as goal
 
 -- a double is left out

@@ -14,12 +14,12 @@ use Rattle.wsm_turns.specs.Heard.{left_count, silent_count}
 use Rattle.wsm_turns.specs.Named.{Knows}
 use Rattle.wsm_turns.specs.Turns.{kept, spoken_by, stamp_of}
 use Rattle.wsm_turns.specs.Voices.{Voiced}
-use Rattle.wsm_intake.specs.Intake.{Said, fault_count, fault_text, left_at, names_of, said, said_at, text_of_turn, turn_at, turn_text, voiced_in, voiced_line}
+use Rattle.wsm_log_text.specs.LogText.{Said, fault_count, fault_text, left_at, names_of, said, said_at, text_of_turn, turn_at, turn_text, voiced_in, voiced_line}
 use Rattle.wsm_intake.specs.Tells.{Serves}
 use Rattle.wsm_intake.specs.Turns.{FitsBehind, Goes, setting_by, spoken_read}
-use Rattle.wsm_intake.proofs.Counts.{one_more}
+use Rattle.wsm_log_text.proofs.Counts.{one_more}
 use Rattle.wsm_turns.proofs.Stamps.{few_by, few_stamps}
-use Rattle.wsm_intake.proofs.GoingOn.{fault_alone, first_next}
+use Rattle.wsm_log_text.proofs.FirstLines.{fault_alone, first_next}
 use Rattle.wsm_intake.proofs.intake.Intake.take_line.Goals as goal
 
 pub returns-in-Ok-clause-turned : goal.returns-in-Ok-clause-turned

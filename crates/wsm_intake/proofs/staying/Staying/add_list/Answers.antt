@@ -11,8 +11,8 @@ use Rattle.wsm_saved.specs.Events.{event_text}
 use Rattle.wsm_saved.specs.Numbers.{number_text}
 use Rattle.wsm_semantics.specs.Needed.{needed}
 use Rattle.wsm_intake.specs.Staying.{Cuts}
-use Rattle.wsm_intake.proofs.Behind.{grown_on}
-use Rattle.wsm_intake.proofs.StayingEvents.{is_listed}
+use Rattle.wsm_log_text.proofs.Behind.{grown_on}
+use Rattle.wsm_log_text.proofs.NeededEvents.{is_listed}
 use Rattle.wsm_intake.proofs.staying.Staying.add_list.Goals as goal
 
 pub returns-clause-cuts : goal.returns-clause-cuts

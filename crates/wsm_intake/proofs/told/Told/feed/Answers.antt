@@ -5,7 +5,7 @@ use Rattle.wsm_program.specs.Program.{Program}
 use Rattle.wsm_machine.specs.Meaning.{query_of}
 use Rattle.wsm_engine.specs.Meaning.{reply_to}
 use Rattle.wsm_intake.specs.Staying.{Cuts}
-use Rattle.wsm_intake.proofs.StayingEvents.{some_in}
+use Rattle.wsm_log_text.proofs.NeededEvents.{some_in}
 use Rattle.wsm_intake.proofs.told.Told.feed.Goals as goal
 
 pub returns-in-Some-clause-fed : goal.returns-in-Some-clause-fed

@@ -4,7 +4,7 @@ use Rattle.wsm_record.specs.Event.{event_of}
 use Rattle.wsm_program.specs.Program.{Program}
 use Rattle.wsm_machine.specs.Meaning.{query_of}
 use Rattle.wsm_head.specs.StandsFor.{program_with, taken}
-use Rattle.wsm_intake.specs.Resuming.{fed_all}
+use Rattle.wsm_log_text.specs.Needed.{fed_all}
 use Rattle.wsm_intake.specs.Tells.{Serves}
 use Rattle.wsm_intake.proofs.told.Told.resume.Goals as goal
 

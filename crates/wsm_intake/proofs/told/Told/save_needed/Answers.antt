@@ -1,5 +1,5 @@
 use Rattle.wsm_intake.specs.Staying.{Cuts}
-use Rattle.wsm_intake.proofs.StayingEvents.{some_in}
+use Rattle.wsm_log_text.proofs.NeededEvents.{some_in}
 use Rattle.wsm_intake.proofs.told.Told.save_needed.Goals as goal
 
 pub returns-in_ok-add_list-in-Some-clause-serves : goal.returns-in_ok-add_list-in-Some-clause-serves

@@ -1,7 +1,7 @@
 use Rattle.std.proofs.Common.{List, map, take}
 use Rattle.wsm_record.specs.Event.{Event, event_of}
 use Rattle.wsm_program.specs.Program.{Program}
-use Rattle.wsm_intake.specs.Resuming.{fed_all}
+use Rattle.wsm_log_text.specs.Needed.{fed_all}
 use Rattle.wsm_intake.specs.Tells.{Serves}
 use Rattle.wsm_intake.proofs.told.Told.take_all.Given as goal
 

@@ -11,10 +11,10 @@ use Rattle.wsm_program.specs.Program.{Program}
 use Rattle.wsm_machine.specs.Meaning.{query_of}
 use Rattle.wsm_engine.specs.declared.reply.Reply.{Reply}
 use Rattle.wsm_intake.specs.declared.told.Told.{Told}
-use Rattle.wsm_intake.specs.Intake.{event_text}
+use Rattle.wsm_log_text.specs.LogText.{event_text}
 use Rattle.wsm_intake.specs.Staying.{Fed}
 use Rattle.wsm_intake.specs.Tells.{Serves}
-use Rattle.wsm_intake.proofs.Lines.{joined_lines}
+use Rattle.wsm_csv.proofs.TurnLines.{joined_lines}
 use Rattle.wsm_intake.proofs.told.ToldTaker.take.Goals as goal
 
 pub returns : goal.returns

@@ -5,8 +5,7 @@ use Rattle.wsm_turns.specs.Clocks.{count_in}
 use Rattle.wsm_turns.specs.Turns.{at_end, fed_with}
 use Rattle.wsm_part_programs.specs.Names.{of_names}
 use Rattle.wsm_keyed_told.specs.KeyedLines.{events_text}
-use Rattle.wsm_intake.specs.Intake.{line_behind}
-use Rattle.wsm_intake.specs.Turns.{line_of}
+use Rattle.wsm_log_text.specs.LogText.{line_behind, line_of}
 use Rattle.wsm_keyed_intake.specs.KeyedLog.{kept_by, last_line, names_of, said_by}
 use Rattle.wsm_keyed_intake.proofs.Telling.{told_text}
 use Rattle.wsm_keyed_intake.proofs.intake.KeyedIntake.end.Goals as goal

@@ -13,8 +13,8 @@ use Rattle.wsm_part_engines.specs.Fits as parts
 use Rattle.wsm_keyed_told.specs.declared.told.KeyedTold.{KeyedTold}
 use Rattle.wsm_keyed_told.specs.Tells.{Serves}
 use Rattle.wsm_keyed_told.specs.Resuming.{GoesOnFrom}
-use Rattle.wsm_intake.specs.Resuming.{fed_all, left_behind}
-use Rattle.wsm_intake.proofs.Resumed.{needed_fed}
+use Rattle.wsm_log_text.specs.Needed.{fed_all}
+use Rattle.wsm_log_text.proofs.NeededEvents.{needed_fed}
 use Rattle.wsm_keyed_intake.specs.KeyedLog.{names_of, setting_by}
 use Rattle.wsm_keyed_intake.specs.Turns.{Grows}
 use Rattle.wsm_keyed_intake.specs.GoesOn.{GoesOnBy}

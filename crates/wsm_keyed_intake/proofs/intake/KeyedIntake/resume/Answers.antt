@@ -1,14 +1,12 @@
 use Rattle.std.proofs.Common.{◌≡◌, ◌∙◌, ◌++◌, ℕ, List, [], length, map, sym, ap, subst, append-nil}
 use Rattle.wsm_record.specs.Event.{event_of}
-use Rattle.wsm_program.specs.Program.{Program}
-use Rattle.wsm_turns.specs.Clocks.{count_in}
 use Rattle.wsm_turns.specs.Turns.{watermark}
 use Rattle.wsm_head.specs.StandsFor.{program_with}
 use Rattle.wsm_saved.specs.Events.{event_text}
 use Rattle.wsm_saved.specs.Lists.{list_text}
 use Rattle.wsm_saved_turns.proofs.Reading.{both}
-use Rattle.wsm_intake.specs.Saved.{needed_in_order}
-use Rattle.wsm_intake.specs.Standing.{AreFacts, Says}
+use Rattle.wsm_log_text.specs.Needed.{needed_in_order}
+use Rattle.wsm_log_text.specs.Standing.{AreFacts, Says}
 use Rattle.wsm_keyed_intake.specs.KeyedLog.{KeyedLog, names_of, setting_by}
 use Rattle.wsm_keyed_intake.specs.Saved.{IsReadBy, facts_by, query_with, rest_text}
 use Rattle.wsm_keyed_intake.proofs.SavedFacts.{facts_of_count, says_of_count}

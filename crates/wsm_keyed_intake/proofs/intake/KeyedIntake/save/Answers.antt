@@ -1,5 +1,5 @@
 use Rattle.std.proofs.Common.{rules, ◌≡◌, ◌∙◌, ◌++◌, ℕ, Bool, List, [], true, false, nat_lt, drop, length, take, refl, sym, ap, subst, arith}
-use Rattle.std.specs.Prelude.{◌&&◌, unsigned_abs, IfOk, IsTrue, OnOk}
+use Rattle.std.specs.Prelude.{◌&&◌, unsigned_abs, IfOk, IsTrue}
 use Rattle.std.proofs.lemmas.Result.{IfOk-weaker, on_ok_weaker}
 use Rattle.std.proofs.Transfers.{drop-appended}
 use Rattle.wsm_record.specs.Event.{Event}
@@ -14,13 +14,10 @@ use Rattle.wsm_saved_turns.specs.Turns.{DoublesFit, clocks_text, doubles_text, n
 use Rattle.wsm_keyed_told.specs.declared.told.KeyedTold.{KeyedTold}
 use Rattle.wsm_keyed_told.specs.Tells.{Serves}
 use Rattle.wsm_keyed_told.proofs.ByNames.{if_ok_all, on_ok_all}
-use Rattle.wsm_part_engines.specs.Fits as parts
-use Rattle.wsm_intake.specs.Intake as intake
-use Rattle.wsm_intake.specs.Resuming.{left_behind}
-use Rattle.wsm_intake.specs.Saved.{needed_in_order}
-use Rattle.wsm_intake.specs.Staying.{IsListed}
-use Rattle.wsm_intake.proofs.Behind.{behind, grown_through}
-use Rattle.wsm_intake.proofs.SavedFacts.{known_itself, left_alike, named_of, names_in, said_each, some_and_some}
+use Rattle.wsm_log_text.specs.LogText as texts
+use Rattle.wsm_log_text.specs.Needed.{left_behind, needed_in_order, IsListed}
+use Rattle.wsm_log_text.proofs.Behind.{behind, grown_through}
+use Rattle.wsm_log_text.proofs.SavedFacts.{known_itself, left_alike, named_of, names_in, said_each, some_and_some}
 use Rattle.wsm_keyed_intake.specs.KeyedLog.{declared_by, kept_by, names_of}
 use Rattle.wsm_keyed_intake.specs.Saved.{keeps_events, query_with}
 use Rattle.wsm_keyed_intake.proofs.GoingOn.{named_by, served_on}
@@ -76,7 +73,7 @@ returns-clause-saved c = λ g before on.
     let whole : (later : List (List ℕ)) → last ≡ start ++ all_text g old before on later left = λ later.
     let by = on.by later in
     let all = names_of g (later ++ before) in
-    let voices = intake.names_of g.source clocks (declared_by g all) before in
+    let voices = texts.names_of g.source clocks (declared_by g all) before in
     let list = list_text event_text (needed_in_order (query_with g on.records all) by.other.fed) in
     let by_names = list_text bytes_text old.told.names ++ list in
     let by_doubles = doubles_text old.identifiers.doubles.entries ++ by_names in
@@ -104,7 +101,7 @@ returns-clause-saved c = λ g before on.
         by = λ later.
             let by = on.by later in
             let all = names_of g (later ++ before) in
-            let voices = intake.names_of g.source clocks (declared_by g all) before in
+            let voices = texts.names_of g.source clocks (declared_by g all) before in
             let named = named_by lesser old.told by.other.fed by.holds.told all by.holds.grows in
             is_saved g old before on later left text (c.records_left-left.ensures.left lesser by.other.fed by.holds.told all named)
             (search rules) (search rules) (omega arith) (omega arith)

@@ -14,7 +14,7 @@ use Rattle.wsm_turns.proofs.Remembering.{mark_rises, remembers_on}
 use Rattle.wsm_turns.proofs.Stamps.{clock_known, time_small}
 use Rattle.wsm_key_names.specs.Reading.{by_names}
 use Rattle.wsm_keyed_told.specs.Tells.{Tells}
-use Rattle.wsm_intake.proofs.Counts.{no_more}
+use Rattle.wsm_log_text.proofs.Counts.{no_more}
 use Rattle.wsm_keyed_intake.specs.KeyedLog.{setting_by}
 use Rattle.wsm_keyed_intake.specs.Turns.{Speaks, spoken_read}
 use Rattle.wsm_keyed_intake.proofs.Stamps.{stamp_more}

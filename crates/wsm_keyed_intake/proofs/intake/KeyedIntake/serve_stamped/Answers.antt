@@ -11,7 +11,7 @@ use Rattle.wsm_turns.specs.Voices.{voiced}
 use Rattle.wsm_keyed_intake.specs.declared.intake.KeyedIntake.{KeyedIntake}
 use Rattle.wsm_keyed_intake.specs.KeyedLog.{setting_by}
 use Rattle.wsm_keyed_intake.specs.Turns.{Goes, spoken_read}
-use Rattle.wsm_intake.proofs.Counts.{some_more}
+use Rattle.wsm_log_text.proofs.Counts.{some_more}
 use Rattle.wsm_keyed_intake.proofs.intake.KeyedIntake.serve_stamped.Goals as goal
 
 pub returns : goal.returns

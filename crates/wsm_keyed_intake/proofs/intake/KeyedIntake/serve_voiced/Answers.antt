@@ -14,7 +14,7 @@ use Rattle.wsm_keyed_told.specs.Tells.{Tells, Took}
 use Rattle.wsm_keyed_intake.specs.KeyedLog.{setting_by}
 use Rattle.wsm_keyed_intake.specs.Turns.{Goes, spoken_read}
 use Rattle.wsm_keyed_intake.proofs.Telling.{told_grows, told_text}
-use Rattle.wsm_intake.proofs.Counts.{no_more, one_more_fault}
+use Rattle.wsm_log_text.proofs.Counts.{no_more, one_more_fault}
 use Rattle.wsm_keyed_intake.proofs.intake.KeyedIntake.serve_voiced.Goals as goal
 
 -- a double is left out

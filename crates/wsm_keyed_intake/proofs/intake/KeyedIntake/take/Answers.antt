@@ -23,14 +23,14 @@ use Rattle.wsm_keyed_told.specs.Staying.{CutsAll}
 use Rattle.wsm_keyed_told.specs.Tells.{Serves}
 use Rattle.wsm_keyed_told.proofs.More.{fits_more}
 use Rattle.wsm_part_engines.specs.Fits as parts
-use Rattle.wsm_intake.specs.FirstLine.{first_of}
-use Rattle.wsm_intake.specs.Intake as intake
-use Rattle.wsm_intake.specs.Intake.{Said, fault_count, fault_text, left_at, turn_at, voiced_in, voiced_line}
-use Rattle.wsm_intake.proofs.Counts.{no_more, one_more}
-use Rattle.wsm_intake.proofs.GoingOn.{fault_alone, first_next}
+use Rattle.wsm_log_text.specs.FirstLine.{first_of}
+use Rattle.wsm_log_text.specs.LogText as texts
+use Rattle.wsm_log_text.specs.LogText.{Said, fault_count, fault_text, left_at, turn_at, voiced_in, voiced_line}
+use Rattle.wsm_log_text.proofs.Counts.{no_more, one_more}
+use Rattle.wsm_log_text.proofs.FirstLines.{fault_alone, first_next}
 use Rattle.wsm_keyed_intake.specs.declared.intake.KeyedIntake.{KeyedIntake}
 use Rattle.wsm_keyed_intake.specs.KeyedLog.{KeyedLog, declared_by, kept_by, names_of, said_by, said_next, setting_by, text_of_turn, turn_text}
-use Rattle.wsm_keyed_intake.specs.Turns.{Fits, FitsBy, Goes, Grows, Holds, Reads, TurnedBy, spoken_read}
+use Rattle.wsm_keyed_intake.specs.Turns.{FitsBy, Goes, Grows, Holds, Reads, TurnedBy, spoken_read}
 use Rattle.wsm_keyed_intake.specs.GoesOn.{GoesOnBy, GoneOnBy}
 use Rattle.wsm_keyed_intake.proofs.GoingOn.{alike, text_there}
 use Rattle.wsm_keyed_intake.proofs.Names.{line_grows, lines_grow}
@@ -87,7 +87,7 @@ returns-in-Ok-clause-turned c = λ g before fits.
     let w = setting_by clocks p all in
     let there = by_more g (λ ns. FitsBy g ns old before) before line fits.by later in
     let said = said_by g all before in
-    let voices = intake.names_of s clocks d before in
+    let voices = texts.names_of s clocks d before in
     let k = kept_by g all before in
     let v = voiced_in clocks d voices (clock_read r.reader) (Ok (event_read r.reader)) in
     let x = spoken_read r v.voice in
@@ -164,14 +164,14 @@ returns-in-Err-Fault-clause-turned c = λ g before fits.
           let w = setting_by clocks p all in
           let there = by_more g (λ ns. FitsBy g ns old before) before line fits.by later in
           let said = said_by g all before in
-          let voices = intake.names_of s clocks d before in
+          let voices = texts.names_of s clocks d before in
           let k = kept_by g all before in
           let n = length said + 1 in
           let mid : KeyedIntake = record old { told = record old.told { lines = new.told.lines; names = names }; first = c.note_first.new.first; reader = r; taken = c.in-Some.taken; faults = new.faults } in
           let now : new ≡ mid = c.refuse.ensures.others in
           let fault : said_of s d before line ≡ Err why = rw c.in-Err-Fault.field-0-is at c.in-Err-Fault.ensures.fault s d before fits.reads.reader in
           let is : said_next g all before line ≡ Err why = λ i. spoken_by (identifier_of s before line) (voiced_line s clocks d before line).voice (fault i) in
-          let named : intake.names_of s clocks d (line ∷ before) ≡ voices = ap (λ (q : Result Event LineFault). (voiced_in clocks d voices (clock_of s before line) q).names) fault in
+          let named : texts.names_of s clocks d (line ∷ before) ≡ voices = ap (λ (q : Result Event LineFault). (voiced_in clocks d voices (clock_of s before line) q).names) fault in
           let number : c.in-Some.taken ≡ n = sum ∙ ap (λ (m : ℕ). m + 1) there.taken in
           let kept : Holds clocks p all mid k = record {
             told = serves g old before line fits.reads.known r names reads later p k.fed there.holds.told mid refl refl refl;
@@ -182,7 +182,7 @@ returns-in-Err-Fault-clause-turned c = λ g before fits.
           record {
             fits = record {
               holds = subst (λ (y : Said). Holds clocks p all new (turn_at w k n y).kept) (sym is) (subst (λ (t : KeyedIntake). Holds clocks p all t k) (sym now) kept);
-              voices = subst (λ (t : KeyedIntake). Knows (named_in clocks) t.voices (intake.names_of s clocks d (line ∷ before))) (sym now) (subst (λ (l : List (List ℕ)). Knows (named_in clocks) old.voices l) (sym named) there.voices);
+              voices = subst (λ (t : KeyedIntake). Knows (named_in clocks) t.voices (texts.names_of s clocks d (line ∷ before))) (sym now) (subst (λ (l : List (List ℕ)). Knows (named_in clocks) old.voices l) (sym named) there.voices);
               taken = ap (λ (t : KeyedIntake). t.taken) now ∙ number ∙ one_more (length said);
               faults = c.refuse.ensures.faults (fault_count said) there.faults ∙ ap (λ (y : Said). counter (fault_count (y ∷ said))) (sym is);
               doubles = no_more new.doubles (left_count w said) (ap (λ (t : KeyedIntake). t.doubles) now ∙ there.doubles) ∙ ap (λ (y : Said). counter (left_count w (y ∷ said))) (sym is);
@@ -221,7 +221,7 @@ returns-in-Ok-clause-goes_on c = λ g before on.
     let there = by_more g (λ ns. GoesOnBy g on.records ns old before) before line on.by later in
     let said = said_by g all before in
     let n = length said + 1 in
-    let voices = intake.names_of s clocks d before in
+    let voices = texts.names_of s clocks d before in
     let k = there.other in
     let v = voiced_in clocks d voices (clock_read r.reader) (Ok (event_read r.reader)) in
     let x = spoken_read r v.voice in
@@ -309,12 +309,12 @@ returns-in-Err-Fault-clause-goes_on c = λ g before on.
     let w = setting_by clocks lesser all in
     let there = by_more g (λ ns. GoesOnBy g on.records ns old before) before line on.by later in
     let said = said_by g all before in
-    let voices = intake.names_of s clocks d before in
+    let voices = texts.names_of s clocks d before in
     let k = there.other in
     let n = length said + 1 in
     let fault : said_of s d before line ≡ Err why = rw c.in-Err-Fault.field-0-is at c.in-Err-Fault.ensures.fault s d before on.reads.reader in
     let is : said_next g all before line ≡ Err why = λ i. spoken_by (identifier_of s before line) (voiced_line s clocks d before line).voice (fault i) in
-    let named : intake.names_of s clocks d (line ∷ before) ≡ voices = ap (λ (q : Result Event LineFault). (voiced_in clocks d voices (clock_of s before line) q).names) fault in
+    let named : texts.names_of s clocks d (line ∷ before) ≡ voices = ap (λ (q : Result Event LineFault). (voiced_in clocks d voices (clock_of s before line) q).names) fault in
     let number : c.in-Some.taken ≡ n = sum ∙ ap (λ (m : ℕ). m + 1) there.taken in
     let kept : Holds clocks lesser all mid k = record {
       told = serves g old before line on.reads.known r names reads later lesser k.fed there.holds.told mid refl refl refl;
@@ -328,7 +328,7 @@ returns-in-Err-Fault-clause-goes_on c = λ g before on.
         holds = subst (λ (y : Said). Holds clocks lesser all new (turn_at w k n y).kept) (sym is) (subst (λ (t : KeyedIntake). Holds clocks lesser all t k) (sym now) kept);
         stands = (alike g on.lawful on.records all before k there.stands (said_next g all before line)).kept;
         few = subst (λ (y : Said). length (turn_at w k n y).kept.stamps ≤ suc (length said)) (sym is) (let m = there.few in omega (arith, m));
-        voices = subst (λ (t : KeyedIntake). Knows (named_in clocks) t.voices (intake.names_of s clocks d (line ∷ before))) (sym now) (subst (λ (l : List (List ℕ)). Knows (named_in clocks) old.voices l) (sym named) there.voices);
+        voices = subst (λ (t : KeyedIntake). Knows (named_in clocks) t.voices (texts.names_of s clocks d (line ∷ before))) (sym now) (subst (λ (l : List (List ℕ)). Knows (named_in clocks) old.voices l) (sym named) there.voices);
         taken = ap (λ (t : KeyedIntake). t.taken) now ∙ number ∙ one_more (length said);
       };
       text = text ∙ ap (λ (l : List ℕ). l ++ fault_text c.in-Some.taken why) c.clear.ensures.items ∙ ap (λ (m : ℕ). fault_text m why) number ∙ ap (text_of_turn lesser all clocks k n) (sym is)

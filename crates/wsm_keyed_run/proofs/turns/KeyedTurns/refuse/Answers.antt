@@ -4,7 +4,7 @@ use Rattle.wsm_admission.proofs.FittedHistory.{counted}
 use Rattle.wsm_semantics.specs.Lines.{Faulty, fault_count}
 use Rattle.wsm_semantics.specs.Text.{line_text}
 use Rattle.wsm.proofs.RowTurns.{one_more}
-use Rattle.wsm.proofs.TurnLines.{one_line}
+use Rattle.wsm_csv.proofs.TurnLines.{one_line}
 use Rattle.wsm_keyed_run.specs.Turns.{Counts}
 use Rattle.wsm_keyed_run.proofs.turns.KeyedTurns.refuse.Goals as goal
 

@@ -9,8 +9,8 @@ use Rattle.wsm_keep.proofs.OfEvents.{needed_stay}
 use Rattle.wsm_saved.specs.Events.{event_text}
 use Rattle.wsm_saved.specs.Numbers.{number_text}
 use Rattle.wsm_semantics.specs.Needed.{needed}
-use Rattle.wsm_intake.proofs.Behind.{grown_on}
-use Rattle.wsm_intake.proofs.StayingEvents.{is_listed}
+use Rattle.wsm_log_text.proofs.Behind.{grown_on}
+use Rattle.wsm_log_text.proofs.NeededEvents.{is_listed}
 use Rattle.wsm_keyed_told.specs.Staying.{Cuts}
 use Rattle.wsm_keyed_told.proofs.staying.KeyedStaying.add_list.Goals as goal
 

@@ -2,7 +2,7 @@ use Rattle.std.proofs.Common.{◌≡◌, ◌∙◌, [], map, SFits, to_z, of_z, 
 use Rattle.wsm_record.specs.Event.{event_of}
 use Rattle.wsm_program.specs.Program.{Program}
 use Rattle.wsm_head.specs.StandsFor.{program_with}
-use Rattle.wsm_intake.specs.Resuming.{fed_all}
+use Rattle.wsm_log_text.specs.Needed.{fed_all}
 use Rattle.wsm_keyed_told.specs.Resuming.{IsLeft}
 use Rattle.wsm_keyed_told.specs.Tells.{Serves}
 use Rattle.wsm_keyed_told.proofs.told.KeyedTold.resume.Goals as goal

@@ -1,6 +1,5 @@
-use Rattle.std.proofs.Common.{List, ℕ}
 use Rattle.wsm_part_programs.specs.Names.{of_names}
-use Rattle.wsm_intake.proofs.StayingEvents.{some_in}
+use Rattle.wsm_log_text.proofs.NeededEvents.{some_in}
 use Rattle.wsm_keyed_told.specs.Staying.{CutsAll}
 use Rattle.wsm_keyed_told.proofs.told.KeyedTold.save_needed.Goals as goal
 

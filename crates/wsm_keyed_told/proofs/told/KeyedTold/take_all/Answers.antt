@@ -1,8 +1,8 @@
 use Rattle.std.proofs.Common.{◌∙◌, map, take, sym, subst, arith}
 use Rattle.std.proofs.lemmas.List.{take_all}
 use Rattle.wsm_record.specs.Event.{event_of}
-use Rattle.wsm_intake.specs.Resuming.{fed_all}
-use Rattle.wsm_intake.proofs.FedAll.{fed_more}
+use Rattle.wsm_log_text.specs.Needed.{fed_all}
+use Rattle.wsm_log_text.proofs.FedAll.{fed_more}
 use Rattle.wsm_keyed_told.specs.Tells.{Serves}
 use Rattle.wsm_keyed_told.proofs.told.KeyedTold.take_all.Goals as goal
 

@@ -1,7 +1,7 @@
 use Rattle.std.proofs.Common.{◌≡◌, List, map, take}
 use Rattle.wsm_record.specs.Event.{Event, event_of}
 use Rattle.wsm_program.specs.Program.{Program}
-use Rattle.wsm_intake.specs.Resuming.{fed_all}
+use Rattle.wsm_log_text.specs.Needed.{fed_all}
 use Rattle.wsm_keyed_told.specs.Tells.{Serves}
 use Rattle.wsm_keyed_told.proofs.told.KeyedTold.take_all.Given as goal
 

@@ -5,8 +5,8 @@ use Rattle.wsm_semantics.specs.Query.{Query}
 use Rattle.wsm_turns.specs.declared.clocks.Clocks.{Clocks}
 use Rattle.wsm_turns.specs.Heard.{heard, left_count, silent_count}
 use Rattle.wsm_turns.specs.Turns.{kept, setting_of}
-use Rattle.wsm_intake.specs.declared.totals.LogCounts.{LogCounts}
-use Rattle.wsm_intake.specs.Intake.{Said}
+use Rattle.wsm_log_text.specs.declared.totals.LogCounts.{LogCounts}
+use Rattle.wsm_log_text.specs.LogText.{Said}
 
 -- how many records were left out, how many had no voice, and what the clocks came to behind the last line
 abbrev pub counts_of : Query → Option Clocks → List Said → LogCounts

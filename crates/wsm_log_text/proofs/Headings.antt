@@ -6,7 +6,7 @@ use Rattle.wsm_lines.specs.declared.source.Format.TheVariants as format
 use Rattle.wsm_lines.specs.declared.fault.LineFault.{LineFault}
 use Rattle.wsm_lines.specs.Heading.{Heading, headed, headed_in, heading_by, heading_in, of_cells, unread, with_columns}
 use Rattle.wsm_lines.specs.Text.{bare, text_in}
-use Rattle.wsm_intake.specs.FirstLine.{first_behind}
+use Rattle.wsm_log_text.specs.FirstLine.{first_behind}
 
 by_columns : (form : CsvForm) (longest : ℕ) (text : List ℕ) (n : ℕ) (o : Option (List ℕ)) (line : List ℕ) → headed form longest (with_columns text n o) line ≡ with_columns text n o
 by_columns form longest text n None line = refl

@@ -2,8 +2,8 @@
 
 use std::io;
 use std::rt::Files;
-use wsm::End;
 use wsm_explain::{Judgement, explain, explained_text};
+use wsm_inputs::End;
 use wsm_job::{Stop, input_of, read, write_all};
 use wsm_words::ExplainJob;
 

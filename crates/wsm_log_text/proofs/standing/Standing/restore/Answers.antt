@@ -4,8 +4,8 @@ use Rattle.wsm_saved.specs.Numbers.{number_text}
 use Rattle.wsm_saved.specs.Lists.{bytes_text}
 use Rattle.wsm_saved_turns.specs.Turns.{clocks_text, doubles_text, names_text}
 use Rattle.wsm_turns.specs.Clocks.{named_in}
-use Rattle.wsm_intake.proofs.Restored.{bytes_restored, number_restored}
-use Rattle.wsm_intake.proofs.standing.Standing.restore.Goals as goal
+use Rattle.wsm_log_text.proofs.Restored.{bytes_restored, number_restored}
+use Rattle.wsm_log_text.proofs.standing.Standing.restore.Goals as goal
 
 pub returns : goal.returns
 returns c = λ w mark f rest facts is.

@@ -1,6 +1,6 @@
--- The list of the events that stay.
+-- The events that a query needs: their list, and an engine that is fed them.
 use Rattle.std.proofs.Common.{◌≡◌, ◌∙◌, ◌<◌, ◌^◌, ℕ, List, [], ◌∷◌, ◌++◌, length, map, reverse, Option, Some, Ok, IfSome, refl, sym, ap, subst, append_assoc, append-nil}
-use Rattle.std.proofs.lemmas.List.{length-map, length-reverse, reverse-append}
+use Rattle.std.proofs.lemmas.List.{length-map, length-reverse, reverse-append, reverse-reverse}
 use Rattle.wsm_record.specs.Event.{Event}
 use Rattle.wsm_semantics.specs.Query.{Query}
 use Rattle.wsm_semantics.specs.Lines.{Row}
@@ -13,7 +13,7 @@ use Rattle.wsm_keep.proofs.StayingEvents.{staying_events}
 use Rattle.wsm_saved.specs.Numbers.{number_text}
 use Rattle.wsm_saved.specs.Events.{EventFits, event_text}
 use Rattle.wsm_saved.specs.Lists.{EachFits, texts}
-use Rattle.wsm_intake.specs.Staying.{IsListed}
+use Rattle.wsm_log_text.specs.Needed.{IsListed, fed_all, needed_in_order}
 
 pub some_in : {A : Type 0} (P : A → Type 0) (o : Option A) (x : A) → o ≡ Some x → IfSome o P → P x
 some_in {A = A} P o x is h = subst (λ (o : Option A). IfSome o P) is h
@@ -86,3 +86,16 @@ is_listed q past each old mid new more count added few first second =
           ∙ ap (λ (n : ℕ). old ++ (number_text n ++ texts event_text (reverse es))) many;
       fits = (subst (λ (n : ℕ). n < 2 ^ 64) many few, each_reverse EventFits es (each_needed EventFits q past each));
     }
+
+-- ---- an engine is fed them
+
+fed_reversed : (past events : List Event) → fed_all past events ≡ reverse events ++ past
+fed_reversed past [] = refl
+fed_reversed past (e ∷ es) =
+    fed_reversed (e ∷ past) es
+    ∙ sym (append_assoc (reverse es) (e ∷ []) past)
+    ∙ ap (λ (l : List Event). l ++ past) (sym (reverse-cons e es))
+
+-- the needed ones, as they were saved
+pub needed_fed : (q : Query) (fed : List Event) → fed_all [] (needed_in_order q fed) ≡ needed q fed
+needed_fed q fed = fed_reversed [] (needed_in_order q fed) ∙ append-nil (reverse (needed_in_order q fed)) ∙ reverse-reverse (needed q fed)

@@ -2,7 +2,7 @@
 use Rattle.std.proofs.Common.{◌≡◌, ◌∙◌, ◌<◌, ◌+◌, ◌++◌, ℕ, List, [], ◌∷◌, length, get_or, map, take, refl, sym, ap}
 use Rattle.std.proofs.lemmas.List.{map-append, take_more}
 use Rattle.wsm_record.specs.Event.{Event}
-use Rattle.wsm_intake.specs.Resuming.{fed_all}
+use Rattle.wsm_log_text.specs.Needed.{fed_all}
 
 fed_last : (past es : List Event) (e : Event) → fed_all past (es ++ e ∷ []) ≡ e ∷ fed_all past es
 fed_last past [] e = refl

@@ -1,10 +1,6 @@
 //! How a run over any number of keys ends early.
 
-ghost use Rattle.std.specs.Prelude.{◌≡◌};
-
-use std::alloc::AllocError;
 use std::fmt;
-use wsm_csv::{DeviceFault, ReadEnd};
 use wsm_inputs::End;
 
 /// How a run over any number of keys ends early. Its text is what the program prints behind its name.
@@ -13,7 +9,7 @@ pub enum KeyedStop {
     /// The text has a KEYS clause; nothing was written.
     KeysClause,
     /// The text says KEY, the name of a record's key; nothing was written.
-    SaysKey,
+    ReadsKey,
     /// The query writes a stream, and no panes; nothing was written.
     Streams,
     /// As a run of a query ends. Lines are counted with the clause of places in front, which has the first.
@@ -26,7 +22,7 @@ impl fmt::Display for KeyedStop {
             KeyedStop::KeysClause => {
                 f.write_str("--keys takes a query without a KEYS clause: leave it out")
             }
-            KeyedStop::SaysKey => {
+            KeyedStop::ReadsKey => {
                 f.write_str("--keys takes a query without KEY: it is the first cell of each row")
             }
             KeyedStop::Streams => f.write_str("--keys takes a query that says EMIT PANES"),
@@ -37,7 +33,7 @@ impl fmt::Display for KeyedStop {
 
 impl From<End> for KeyedStop {
     ghost use Rattle.std.specs.Prelude.{◌≡◌};
-    ghost use Rattle.wsm_keyed_run.specs.declared.stop.KeyedStop.TheVariants as stops;
+    ghost use Rattle.wsm_ends.specs.declared.keyed.KeyedStop.TheVariants as stops;
 
     ghost from_gives = { λ end stop. stop ≡ stops.End end };
 

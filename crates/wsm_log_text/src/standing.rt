@@ -14,7 +14,9 @@ pub struct Standing {
     pub first: Vec<u8>,
     /// How many RECORDS are left.
     pub left: u64,
+    /// The clocks, and the records that wait for them.
     pub waiting: Option<Waiting>,
+    /// The names of clocks that have spoken, where lines name them.
     pub names: Option<ClockNames>,
     /// The identifiers that came.
     pub known: Doubles,
@@ -38,7 +40,7 @@ impl Standing {
     ghost use Rattle.wsm_watermarks.specs.declared.table.TheConstants.{MOST_CLOCKS};
     ghost use Rattle.wsm_turns.specs.Turns.{Setting};
     ghost use Rattle.wsm_turns.specs.Clocks.{AreClocks};
-    ghost use Rattle.wsm_intake.specs.Standing.{AreFacts, Facts, Says, facts_text};
+    ghost use Rattle.wsm_log_text.specs.Standing.{AreFacts, Facts, Says, facts_text};
 
     /// What comes next in a text, by the clocks of a log, of which there are so many; none where the text goes on otherwise.
     ///

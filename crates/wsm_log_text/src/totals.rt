@@ -1,6 +1,6 @@
 //! What a run over a log comes to.
 
-use wsm_engine::Totals;
+use wsm_semantics::Totals;
 use wsm_turns::Heard;
 
 /// What is counted of a run over a log, beside the numbers of its last line.

@@ -2,7 +2,7 @@
 
 use std::fs::File;
 use std::rt::Files;
-use wsm::{End, compile_text, migrate};
+use wsm_inputs::{End, compile_text, migrate};
 use wsm_job::{Stop, end_of, read, write_all};
 use wsm_words::{CompileJob, MigrateJob};
 

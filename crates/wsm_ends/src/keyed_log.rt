@@ -39,7 +39,7 @@ impl fmt::Display for KeyedLogStop {
 
 impl From<LogEnd> for KeyedLogStop {
     ghost use Rattle.std.specs.Prelude.{◌≡◌};
-    ghost use Rattle.wsm_keyed_intake.specs.declared.stop.KeyedLogStop.TheVariants as stops;
+    ghost use Rattle.wsm_ends.specs.declared.keyed_log.KeyedLogStop.TheVariants as stops;
 
     ghost from_gives = { λ end stop. stop ≡ stops.End end };
 

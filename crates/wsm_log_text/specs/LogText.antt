@@ -11,6 +11,7 @@ use Rattle.wsm_semantics.specs.Firings.{firings_so_far}
 use Rattle.wsm_semantics.specs.Relation.{turn_rows}
 use Rattle.wsm_semantics.specs.Lines.{Line, Out, End, refusal_lines}
 use Rattle.wsm_semantics.specs.Text.{line_text, lines_text}
+use Rattle.wsm_semantics.specs.declared.ending.Totals.{Totals}
 use Rattle.wsm_lines.specs.Said.{clock_of, identifier_of, said_of}
 use Rattle.wsm_lines.specs.Fault.{fault_word}
 use Rattle.wsm_lines.specs.declared.fault.LineFault.{LineFault}
@@ -105,6 +106,10 @@ line_behind q lines past =
 
 abbrev pub end_line : Query → Option Clocks → List Said → Line
 end_line q clocks lines = line_behind q lines (fed_at_end q clocks lines)
+
+-- the last line, with these totals
+abbrev pub line_of : Totals → Line
+line_of t = End t.rows t.admitted t.late t.refused t.panes
 
 -- the bytes behind all turns: what waits goes on, and the last line
 abbrev pub end_text : Query → Option Clocks → List Said → List ℕ

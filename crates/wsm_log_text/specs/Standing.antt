@@ -13,7 +13,7 @@ use Rattle.wsm_turns.specs.Waits.{Hear}
 use Rattle.wsm_saved.specs.Numbers.{number_text}
 use Rattle.wsm_saved.specs.Lists.{BytesFit, bytes_text}
 use Rattle.wsm_saved_turns.specs.Turns.{ClocksFit, DoublesFit, NamesFit, clocks_text, doubles_text, names_text}
-use Rattle.wsm_intake.specs.declared.standing.Standing.{Standing}
+use Rattle.wsm_log_text.specs.declared.standing.Standing.{Standing}
 
 -- how many lines came, the first of them, how many RECORDS are left, what came of clocks and waits for them, the names of clocks that
 -- have spoken, the identifiers that are kept and those of them that are remembered; with what keeps the clocks

@@ -1,7 +1,0 @@
-use Rattle.std.proofs.Common.{◌≡◌, ◌++◌, List, ℕ, OnOk, subst}
-use Rattle.wsm_intake.proofs.Lines.{told_text}
-use Rattle.wsm_intake.proofs.told.add_refusal.Goals as goal
-
-pub returns-in_default : goal.returns-in_default
-returns-in_default c = λ declared.
-    subst (λ (line : List ℕ). OnOk c.refusal_text.result (c.refusal_text.new.out.items ≡ c.args.lines.now.items ++ line)) (told_text declared c.args.number c.args.why c.in_default.not-Late) (c.refusal_text.ensures declared)
